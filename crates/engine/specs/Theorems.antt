@@ -1,0 +1,36 @@
+-- What is proved of the definitions, as statements that contracts name.
+use Prim.Native.Nat.{ℕ, _*_}
+use mathlib.Core.Path.{_≡_}
+use lib.IntN.{ℤ, pos, negsuc}
+use lib.Signed.{_≤ℤ_}
+use Rattle.engine.specs.Fraction.{Fraction, whole, _÷_, _+ᶠ_, floorᶠ, ceilᶠ, roundᶠ, Greatest-not-above, Least-not-below}
+use Rattle.engine.specs.Coordinates.{Coordinate}
+use Rattle.engine.specs.Curves.{Meaning, Rules, bare, chain, offset, clamp}
+use Rattle.engine.specs.Root.{entry, rootV, rootCurve, Greatest-root}
+
+-- rounding does what its words say
+pub record Rounding-rules : Type 0 where
+  pub down : (q : Fraction) → Greatest-not-above q (floorᶠ q)
+  pub up : (q : Fraction) → Least-not-below q (ceilᶠ q)
+  pub nearest : (q : Fraction) → Greatest-not-above (q +ᶠ pos 1 ÷ 2) (roundᶠ q)
+
+-- the plain curves keep the rules, and each entry of root is the root that it is called
+pub record Plain-curves : Type 0 where
+  pub bare-keeps : Rules bare
+  pub root-keeps : Rules rootCurve
+  pub entries : (i : ℕ) → Greatest-root (65536 * i) (entry i)
+
+-- every layer over lawful curves is a lawful curve
+pub record Layers-keep : Type 0 where
+  pub chain-keeps : (g f : Meaning) → Rules g → Rules f → Rules (chain g f)
+  pub offset-keeps : (c : ℤ) (m : Meaning) → Rules m → Rules (offset c m)
+  pub clamp-keeps : (a b : ℤ) (m : Meaning) → Coordinate a → Coordinate b → a ≤ℤ b → Rules m → Rules (clamp a b m)
+
+-- worked readings
+pub record Worked-readings : Type 0 where
+  pub root-before : rootV (negsuc 0) ≡ pos 0
+  pub root-0 : rootV (pos 0) ≡ pos 0
+  pub root-1 : rootV (pos 1) ≡ pos 256
+  pub root-2 : rootV (pos 2) ≡ pos 362
+  pub root-1023 : rootV (pos 1023) ≡ pos 8187
+  pub root-beyond : rootV (pos 1024) ≡ pos 8187

@@ -1,0 +1,65 @@
+//! The interface of a curve, and the plainest curve.
+
+ghost use mathlib.Core.Path.{_≡_};
+ghost use Prim.Native.Nat.{ℕ};
+ghost use lib.IntN.{ℤ};
+ghost use Rattle.engine.specs.Fraction.{Fraction};
+ghost use Rattle.engine.specs.Coordinates.{hold, lowest, highest};
+ghost use Rattle.engine.specs.Curves.{bare, meaning, Rules};
+use super::coordinate::held;
+
+/// A curve takes a reading to a value. It never refuses.
+pub trait Curve {
+    // the whole value at a coordinate
+    ghost V: { Self → ℤ → ℤ };
+
+    // the exact value at a fraction
+    ghost E: { Self → Fraction → Fraction };
+
+    // the rise: over a width of n the exact value grows by at most the rise times n
+    ghost S: { Self → ℕ };
+
+    // the radius: the whole value lies at most this far from the exact value
+    ghost R: { Self → ℕ };
+
+    // what every maker of a curve has shown
+    law keeps: { (c : Self) → Rules (meaning (V c) (E c) (S c) (R c)) };
+
+    /// The value at x, held to the coordinates.
+    fn value(&self, x: i32) -> i32
+        ensures { λ r. ⌜ r ≡ V (now (self .entry)) (hold lowest highest x) ⌝ };
+
+    /// The rise.
+    fn rise(&self) -> u16
+        ensures { λ r. ⌜ r ≡ S (now (self .entry)) ⌝ };
+
+    /// The radius.
+    fn radius(&self) -> u16
+        ensures { λ r. ⌜ r ≡ R (now (self .entry)) ⌝ };
+}
+
+/// The bare curve: every reading is its own value.
+#[derive(Clone, Copy)]
+pub struct Bare;
+
+pub impl Curve for Bare as BareCurve {
+    ghost V = { λ _. bare .V };
+
+    ghost E = { λ _. bare .E };
+
+    ghost S = { λ _. bare .S };
+
+    ghost R = { λ _. bare .R };
+
+    fn value(&self, x: i32) -> i32 {
+        held(x)
+    }
+
+    fn rise(&self) -> u16 {
+        1
+    }
+
+    fn radius(&self) -> u16 {
+        0
+    }
+}

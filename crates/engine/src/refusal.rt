@@ -1,0 +1,28 @@
+//! Why a call is turned away.
+
+ghost use mathlib.Core.Path.{_≡_};
+ghost use Rattle.engine.specs.Refusals.{number};
+
+/// Not a coordinate.
+pub const NOT_COORDINATE: u8 = 1;
+/// An argument outside its limits, or a band reversed.
+pub const OUT_OF_LIMITS: u8 = 11;
+
+/// The reason of a refusal.
+#[derive(Clone, Copy)]
+pub enum Refusal {
+    NotCoordinate,
+    OutOfLimits,
+}
+
+impl Refusal {
+    /// The number that users know the refusal by.
+    pub fn number(self) -> u8
+        ensures { λ n. ⌜ n ≡ number self ⌝ }
+    {
+        match self {
+            Refusal::NotCoordinate => NOT_COORDINATE,
+            Refusal::OutOfLimits => OUT_OF_LIMITS,
+        }
+    }
+}
