@@ -5,3 +5,10 @@ pub mod Lags
 pub mod Floors
 pub mod Holds
 pub mod Layers
+pub mod Piecewise
+pub mod Places
+pub mod Joins
+pub mod Lines
+pub mod Roots
+pub mod RootRules
+pub mod Worked

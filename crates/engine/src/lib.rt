@@ -8,5 +8,5 @@ pub mod curve;
 pub mod knot;
 pub mod layer;
 pub mod refusal;
-// pub mod root;
+pub mod root;
 pub mod theorems;
