@@ -47,6 +47,9 @@ pub ≤ᶠ-trans : {p q r : Fraction} → p ≤ᶠ q → q ≤ᶠ r → p ≤ᶠ
 pub whole-≤ : (a b : ℤ) → a ≤ℤ b → whole a ≤ᶠ whole b
 whole-≤ a b h = ≤ᶠ-in (whole a) (whole b) (omega (arith, ints))
 
+pub whole-≤-out : (a b : ℤ) → whole a ≤ᶠ whole b → a ≤ℤ b
+whole-≤-out a b h = omega (arith, ints, ≤ᶠ-out h)
+
 -- ---- the tests
 
 pub leᶠ-true : (p q : Fraction) → leᶠ p q ≡ true → p ≤ᶠ q

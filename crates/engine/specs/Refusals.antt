@@ -25,9 +25,7 @@ number OutOfLimits = out-of-limits
 
 -- ---- the outcome
 
--- A call that may refuse either refuses with the number told, or answers a value of which P holds.
+-- A call that may refuse either answers a value of which P holds, where no number is told, or refuses with that number.
 abbrev pub Outcome : {A : Type 0} → Option ℕ → (A → Type 0) → Result A Refusal → Type 0
-Outcome (Some n) P (Err e) = number e ≡ n
-Outcome None P (Ok a) = P a
-Outcome (Some n) P (Ok a) = ⊥
-Outcome None P (Err e) = ⊥
+Outcome told P (Ok a) = (told ≡ None) × P a
+Outcome told P (Err e) = told ≡ Some (number e)

@@ -7,7 +7,7 @@ ghost use Rattle.engine.specs.Coordinates.{hold, lowest, highest};
 mod calls;
 
 /// A band: two coordinates in order. Its readings are those from the first to the second.
-#[derive(Clone, Copy)]
+#[derive(Clone, Copy, PartialEq, Eq, Debug)]
 pub struct Band {
     lo: i32,
     hi: i32,

@@ -9,7 +9,7 @@ pub const NOT_COORDINATE: u8 = 1;
 pub const OUT_OF_LIMITS: u8 = 11;
 
 /// The reason of a refusal.
-#[derive(Clone, Copy)]
+#[derive(Clone, Copy, PartialEq, Eq, Debug)]
 pub enum Refusal {
     NotCoordinate,
     OutOfLimits,

@@ -1,0 +1,4 @@
+pub mod Rows
+pub mod Laws
+pub mod Checks
+pub mod Flows
