@@ -52,8 +52,15 @@ module _ (a b : ℤ) (band : a ≤ℤ b) where
     high = ≤ᶠ-trans (held-high q) (whole-≤ b highest (cb .high));
   }
 
+  -- the same of whole numbers
   pub hold-mono : (x y : ℤ) → x ≤ℤ y → hold a b x ≤ℤ hold a b y
   hold-mono x y h = grind (arith, ints)
+
+  pub hold-low : (x : ℤ) → a ≤ℤ hold a b x
+  hold-low x = grind (arith, ints)
+
+  pub hold-high : (x : ℤ) → hold a b x ≤ℤ b
+  hold-high x = grind (arith, ints)
 
   pub hold-fits : Coordinate a → Coordinate b → (x : ℤ) → Coordinate (hold a b x)
   hold-fits ca cb x = record { low = grind (arith, ints); high = grind (arith, ints) }
@@ -73,6 +80,7 @@ hold-whole a b x = go (ltZ x a) (ltZ b x) refl refl
     go : (s t : Bool) → ltZ x a ≡ s → ltZ b x ≡ t → holdᶠ a b (whole x) ≡ whole (cond s a (cond t b x))
     go s t e d = rw (times-one x, times-one a, times-one b, e, d) (each s t)
 
+-- a coordinate is held to itself, and what is held to the coordinates is one
 pub hold-inside : (x : ℤ) → Coordinate x → hold lowest highest x ≡ x
 hold-inside x h = grind (arith, ints)
 
@@ -82,4 +90,3 @@ hold-coordinate x = record { low = grind (arith, ints); high = grind (arith, int
 -- both ends of a band are coordinates
 pub band-ends : (a b : ℤ) → lowest ≤ℤ a → a ≤ℤ b → b ≤ℤ highest → Coordinate a × Coordinate b
 band-ends a b l o h = (record { low = l; high = omega (arith, ints) }, record { low = omega (arith, ints); high = h })
-

@@ -45,9 +45,10 @@ module _ (k : ℕ → Knot) (top S : ℕ) (from : ℕ → Fraction → Fraction)
   module _ (j : Joined) where
     pub low : (i : ℕ) (q : Fraction) → i ≤ top → X i ≤ᶠ q → (i < top → q ≤ᶠ X (suc i)) → Y i ≤ᶠ from i q
     low i q l h r =
-        elim (last i l)
-        [ inl e ↦ subst (λ n. Y n ≤ᶠ from n q) (sym e) (subst (λ v. Y top ≤ᶠ v) (sym (j .at-top q)) (≤ᶠ-refl (Y top)))
-        | inr s ↦ ≤ᶠ-trans (j .start i s .1) (j .grows i (X i) q s (≤ᶠ-refl (X i)) h (r s)) ]
+        elim (last i l) [
+          | inl e ↦ subst (λ n. Y n ≤ᶠ from n q) (sym e) (subst (λ v. Y top ≤ᶠ v) (sym (j .at-top q)) (≤ᶠ-refl (Y top)))
+          | inr s ↦ ≤ᶠ-trans (j .start i s .1) (j .grows i (X i) q s (≤ᶠ-refl (X i)) h (r s))
+        ]
 
     pub exact-high : (i : ℕ) (q : Fraction) → i < top → X i ≤ᶠ q → q ≤ᶠ X (suc i) → from i q ≤ᶠ Y (suc i)
     exact-high i q l h r = ≤ᶠ-trans (j .grows i q (X (suc i)) l h r (≤ᶠ-refl (X (suc i)))) (j .end i l .0)
@@ -59,9 +60,10 @@ module _ (k : ℕ → Knot) (top S : ℕ) (from : ℕ → Fraction → Fraction)
       low = low;
       high = exact-high;
       grows =
-          λ i p q l h m r. elim (last i l)
-          [ inl e ↦ subst (λ n. from n p ≤ᶠ from n q) (sym e)
-          (subst₂ _≤ᶠ_ (sym (j .at-top p)) (sym (j .at-top q)) (≤ᶠ-refl (Y top))) | inr s ↦ j .grows i p q s h m (r s)
+          λ i p q l h m r. elim (last i l) [
+            | inl e ↦ subst (λ n. from n p ≤ᶠ from n q) (sym e)
+                (subst₂ _≤ᶠ_ (sym (j .at-top p)) (sym (j .at-top q)) (≤ᶠ-refl (Y top)))
+            | inr s ↦ j .grows i p q s h m (r s)
           ];
       trans = λ a b c h m. ≤ᶠ-trans h m;
       knots = j .y-rises;
@@ -81,11 +83,12 @@ module _ (k : ℕ → Knot) (top S : ℕ) (from : ℕ → Fraction → Fraction)
     lag-low : (i : ℕ) (q : Fraction) → i ≤ top → X i ≤ᶠ q → (i < top → q ≤ᶠ X (suc i))
         → lag S (X i) (Y i) ≤ᶠ lag S q (from i q)
     lag-low i q l h r =
-        elim (last i l)
-        [ inl e ↦ subst (λ n. lag S (X n) (Y n) ≤ᶠ lag S q (from n q)) (sym e)
-        (subst (λ v. lag S (X top) (Y top) ≤ᶠ lag S q v) (sym (j .at-top q))
-        (lag-mono S (Y top) (subst (λ n. X n ≤ᶠ q) e h)))
-        | inr s ↦ ≤ᶠ-trans (lag-anti S (X i) (j .start i s .0)) (j .slow i (X i) q s (≤ᶠ-refl (X i)) h (r s)) ]
+        elim (last i l) [
+          | inl e ↦ subst (λ n. lag S (X n) (Y n) ≤ᶠ lag S q (from n q)) (sym e)
+              (subst (λ v. lag S (X top) (Y top) ≤ᶠ lag S q v) (sym (j .at-top q))
+              (lag-mono S (Y top) (subst (λ n. X n ≤ᶠ q) e h)))
+          | inr s ↦ ≤ᶠ-trans (lag-anti S (X i) (j .start i s .0)) (j .slow i (X i) q s (≤ᶠ-refl (X i)) h (r s))
+        ]
 
     lag-high : (i : ℕ) (q : Fraction) → i < top → X i ≤ᶠ q → q ≤ᶠ X (suc i)
         → lag S q (from i q) ≤ᶠ lag S (X (suc i)) (Y (suc i))
@@ -100,10 +103,11 @@ module _ (k : ℕ → Knot) (top S : ℕ) (from : ℕ → Fraction → Fraction)
       low = lag-low;
       high = lag-high;
       grows =
-          λ i p q l h m r. elim (last i l)
-          [ inl e ↦ subst (λ n. lag S p (from n p) ≤ᶠ lag S q (from n q)) (sym e)
-          (subst₂ (λ v w. lag S p v ≤ᶠ lag S q w) (sym (j .at-top p)) (sym (j .at-top q)) (lag-mono S (Y top) m)) |
-          inr s ↦ j .slow i p q s h m (r s) ];
+          λ i p q l h m r. elim (last i l) [
+            | inl e ↦ subst (λ n. lag S p (from n p) ≤ᶠ lag S q (from n q)) (sym e)
+                (subst₂ (λ v w. lag S p v ≤ᶠ lag S q w) (sym (j .at-top p)) (sym (j .at-top q)) (lag-mono S (Y top) m))
+            | inr s ↦ j .slow i p q s h m (r s)
+          ];
       trans = λ a b c h m. ≤ᶠ-trans h m;
       knots =
           λ i l. ≤ᶠ-trans (lag-low i (X i) (omega arith) (≤ᶠ-refl (X i)) (λ s. j .x-rises i s))

@@ -1,4 +1,4 @@
--- The rise rule by monotonicity: the lag S × q - e does not fall exactly where e rises by at most S for each unit of q.
+-- The rise rule by monotonicity: where the lag S × q - e does not fall, e rises by at most S for each unit of q.
 use Prim.Native.Nat.{ℕ, _+_, _*_, _≤_, _<_}
 use mathlib.Core.Path.{_≡_, ap}
 use native.Mathlib.Nat.{mul-le-mul-right, le-of-mul-le-mul-right, mul-le-mul, mul-add, add-mul}
@@ -14,17 +14,20 @@ use Rattle.engine.proofs.Sums.{Val-add}
 unfoldable pub lag : ℕ → Fraction → Fraction → Fraction
 lag S q e = record { num = pos S *ℤ q .num; less = q .less } -ᶠ e
 
+-- a product with a natural, by its parts
 times-parts : (S : ℕ) (z : ℤ) → (up (pos S *ℤ z) ≡ S * up z) × (down (pos S *ℤ z) ≡ S * down z)
 times-parts S z = omega (arith, product-is (pos S) z)
 
+-- the lag by its terms
 pub Val-lag : (S : ℕ) {q e : Fraction} {a b d a′ b′ d′ : ℕ} → Val q a b d → Val e a′ b′ d′
     → Val (lag S q e) (S * a * d′ + b′ * d) (S * b * d′ + a′ * d) (d * d′)
 unfolding lag
 Val-lag S {q} {e} {a} {b} {d} i j =
     Val--
-    (record
-    { same = rw (times-parts S (q .num) .0, times-parts S (q .num) .1)
-    (go (up (q .num)) (down (q .num)) (den q) a b d S (i .same)) })
+    (record {
+      same = rw (times-parts S (q .num) .0, times-parts S (q .num) .1)
+          (go (up (q .num)) (down (q .num)) (den q) a b d S (i .same));
+    })
     j
   where
     go : (P N f a b d S : ℕ) → P * d + b * f ≡ a * f + N * d → S * P * d + S * b * f ≡ S * a * f + S * N * d
@@ -45,8 +48,8 @@ lag-anti S q {e} {e′} h =
     gain d m n f m′ n′ f′ h = omega (arith, mul-le-mul-right (d * d) h)
 
     go : (S a b d m n f m′ n′ f′ : ℕ) → m * f′ + n′ * f ≤ m′ * f + n * f′
-        → (S * a * f′ + n′ * d) * (d * f) + (S * b * f + m * d) * (d * f′) ≤ (S * a * f + n * d) * (d * f′) +
-        (S * b * f′ + m′ * d) * (d * f)
+        → (S * a * f′ + n′ * d) * (d * f) + (S * b * f + m * d) * (d * f′)
+        ≤ (S * a * f + n * d) * (d * f′) + (S * b * f′ + m′ * d) * (d * f)
     go S a b d m n f m′ n′ f′ h =
         simp add-mul (omega (arith, expand S a d f f′, expand S b d f f′, gain d m n f m′ n′ f′ h))
 
@@ -65,12 +68,12 @@ lag-mono S {p} {q} e h =
     gain S a b d a′ b′ d′ f h = omega (arith, mul-le-mul-right (S * f * f) h)
 
     go : (S a b d a′ b′ d′ m n f : ℕ) → a * d′ + b′ * d ≤ a′ * d + b * d′
-        → (S * a * f + n * d) * (d′ * f) + (S * b′ * f + m * d′) * (d * f) ≤ (S * a′ * f + n * d′) * (d * f) +
-        (S * b * f + m * d) * (d′ * f)
+        → (S * a * f + n * d) * (d′ * f) + (S * b′ * f + m * d′) * (d * f)
+        ≤ (S * a′ * f + n * d′) * (d * f) + (S * b * f + m * d) * (d′ * f)
     go S a b d a′ b′ d′ m n f h =
         simp add-mul (omega (arith, swap n d d′ f, swap m d d′ f, gain S a b d a′ b′ d′ f h))
 
--- a lag that does not fall bounds the rise: the arithmetic, with each product by itself
+-- the arithmetic of the rise, with each product by itself
 turn : (m d g : ℕ) → m * g * (d * d) ≡ m * d * (d * g)
 turn m d g = omega arith
 
@@ -81,22 +84,30 @@ turn″ : (S n d g g′ : ℕ) → S * n * g * g′ * (d * d) ≡ S * (n * d) * 
 turn″ S n d g g′ = omega arith
 
 rise-go : (S n a b d m r g m′ r′ g′ : ℕ) → 0 < d
-    → (S * a * g + r * d) * (d * g′) + (S * b * g′ + m′ * d) * (d * g) ≤ (S * (a + n * d) * g′ + r′ * d) * (d * g) +
-    (S * b * g + m * d) * (d * g′)
+    → (S * a * g + r * d) * (d * g′) + (S * b * g′ + m′ * d) * (d * g)
+    ≤ (S * (a + n * d) * g′ + r′ * d) * (d * g) + (S * b * g + m * d) * (d * g′)
     → m′ * g + r * g′ ≤ (m + S * n * g) * g′ + r′ * g
 rise-go S n a b d m r g m′ r′ g′ p h =
     le-of-mul-le-mul-right {k = d * d}
-        (simp add-mul
-        (omega
-        (arith, simp (mul-add, add-mul) at h, turn m′ d g, turn r d g′, turn m d g′, turn″ S n d g g′, turn r′ d g,
-        turn′ S a d g g′, turn′ S b d g g′)))
-        (mul-le-mul p p)
+    (simp add-mul
+    (omega (
+      arith,
+      simp (mul-add, add-mul) at h,
+      turn m′ d g,
+      turn r d g′,
+      turn m d g′,
+      turn″ S n d g g′,
+      turn r′ d g,
+      turn′ S a d g g′,
+      turn′ S b d g g′,
+    )))
+    (mul-le-mul p p)
 
+-- a lag that does not fall bounds the rise
 pub rise-out : (S n : ℕ) (p q e f : Fraction) → lag S p e ≤ᶠ lag S q f → q ≤ᶠ p +ᶠ whole (pos n)
     → f ≤ᶠ e +ᶠ whole (pos (S * n))
 rise-out S n p q e f h k =
     Val-≤ (omega arith) (omega arith) (val f) (Val-add (S * n) (val e))
-        (rise-go S n (up (p .num)) (down (p .num)) (den p) (up (e .num)) (down (e .num)) (den e) (up (f .num))
-        (down (f .num)) (den f) (omega arith)
-        (Val-≤-out (Val-lag S (val p) (val e)) (Val-lag S (Val-add n (val p)) (val f)) (≤ᶠ-trans h (lag-mono S f k))))
-
+    (rise-go S n (up (p .num)) (down (p .num)) (den p) (up (e .num)) (down (e .num)) (den e) (up (f .num))
+    (down (f .num)) (den f) (omega arith)
+    (Val-≤-out (Val-lag S (val p) (val e)) (Val-lag S (Val-add n (val p)) (val f)) (≤ᶠ-trans h (lag-mono S f k))))

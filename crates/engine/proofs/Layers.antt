@@ -129,15 +129,15 @@ chain-rules g f kg kf = record {
       let eq = kf .exact-fits q fq in
       rise-held _ _ (g .S * f .S) n (kg .exact-fits _ ep) (kg .exact-fits _ eq)
       (rw (mul-assoc (g .S) (f .S) n)
-          (kg .exact-rise (f .S * n) _ _ ep eq (kf .exact-mono p q fp fq h) (kf .exact-rise n p q fp fq h w)));
+      (kg .exact-rise (f .S * n) _ _ ep eq (kf .exact-mono p q fp fq h) (kf .exact-rise n p q fp fq h w)));
   value-low = λ x cx.
       let vx = kf .value-fits x cx in
       let fx = whole-within _ vx in
       let ex = kf .exact-fits _ (whole-within x cx) in
       near-held _ _ _ (kg .exact-fits _ ex) (whole-within _ (kg .value-fits _ vx))
       (swap (g .R) (g .S * f .R) _ _
-          (steps (g .S * f .R) (g .R) _ _ _ (carried g kg (f .R) _ _ fx ex (kf .value-low x cx))
-          (kg .value-low _ vx)));
+      (steps (g .S * f .R) (g .R) _ _ _ (carried g kg (f .R) _ _ fx ex (kf .value-low x cx))
+      (kg .value-low _ vx)));
   value-high = λ x cx.
       let vx = kf .value-fits x cx in
       let fx = whole-within _ vx in

@@ -78,4 +78,3 @@ pub ≤ᶠ-total : (p q : Fraction) → (p ≤ᶠ q) ⊎ (q ≤ᶠ p)
 -- a whole number is tested alike as a fraction
 pub same-test : (a b : ℤ) → leᶠ (whole a) (whole b) ≡ leZ a b
 same-test a b = by-test (leZ a b) (λ e. sym (omega (arith, ints)) ∙ sym e) (λ e. sym (omega (arith, ints)) ∙ sym e)
-

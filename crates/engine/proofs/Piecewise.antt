@@ -45,14 +45,14 @@ module _ {Q A : Type 0} (_≼_ _◁_ : Q → Q → Type 0) (_⊑_ : A → A → 
         (λ e. let e′ = c .stays zero p q e h in rw (e, e′) (c .grows zero p q l (c .yes-below zero p e) h k))
         (λ e. by-test (below zero q)
         (λ e′. rw (e, e′)
-            (c .trans _ _ _ (c .before-high p (c .not-below zero p e)) (c .low zero q l (c .yes-below zero q e′) k)))
+        (c .trans _ _ _ (c .before-high p (c .not-below zero p e)) (c .low zero q l (c .yes-below zero q e′) k)))
         (λ e′. rw (e, e′) (c .before p q h (c .not-below zero q e′))))
     piecewise-mono (suc i) p q l h k = by-test (below (suc i) p)
         (λ e. let e′ = c .stays (suc i) p q e h in rw (e, e′) (c .grows (suc i) p q l (c .yes-below (suc i) p e) h k))
         (λ e. by-test (below (suc i) q)
         (λ e′. rw (e, e′)
-            (c .trans _ _ _ (piecewise-high i p (omega arith) (c .not-below (suc i) p e))
-            (c .low (suc i) q l (c .yes-below (suc i) q e′) k)))
+        (c .trans _ _ _ (piecewise-high i p (omega arith) (c .not-below (suc i) p e))
+        (c .low (suc i) q l (c .yes-below (suc i) q e′) k)))
         (λ e′. rw (e, e′) (piecewise-mono i p q (omega arith) h (λ _. c .not-below (suc i) q e′))))
 
 -- two searches that go the same way: what holds of the first values and of each knot's values holds of the results
@@ -69,7 +69,7 @@ piecewise-both R below first from below′ first′ from′ top q q′ same f g 
 piecewise-both R below first from below′ first′ from′ top q q′ same f g (suc i) l n = by-test (below (suc i) q)
     (λ e. let e′ : below′ (suc i) q′ ≡ true = sym (same (suc i)) ∙ e in rw (e, e′) (g (suc i) l e n))
     (λ e. let e′ : below′ (suc i) q′ ≡ false = sym (same (suc i)) ∙ e in rw (e, e′)
-        (piecewise-both R below first from below′ first′ from′ top q q′ same f g i (omega arith) (λ _. e)))
+    (piecewise-both R below first from below′ first′ from′ top q q′ same f g i (omega arith) (λ _. e)))
 
 -- a function of the value goes through the search
 pub piecewise-map : {Q A B : Type 0} (below : ℕ → Q → Bool) (first : Q → A) (from : ℕ → Q → A) (g : Q → A → B) (i : ℕ)
@@ -88,13 +88,13 @@ unfolding piecewise
 piecewise-at below first from q i e zero l n =
     let z : i ≡ 0 = omega arith in rw z (let e′ : below 0 q ≡ true = subst (λ j. below j q ≡ true) z e in rw e′ refl)
 piecewise-at below first from q i e (suc top) l n =
-    elim (decLe i top)
-    [ yes h ↦
-    (let e′ : below (suc top) q ≡ false = n (suc top) (omega arith) (omega arith) in rw e′
-    (piecewise-at below first from q i e top h (λ j a b. n j a (omega arith))))
-    | no m ↦
-    (let z : i ≡ suc top = omega arith in rw z
-    (let e′ : below (suc top) q ≡ true = subst (λ j. below j q ≡ true) z e in rw e′ refl))
+    elim (decLe i top) [
+      | yes h ↦
+          (let e′ : below (suc top) q ≡ false = n (suc top) (omega arith) (omega arith) in rw e′
+          (piecewise-at below first from q i e top h (λ j a b. n j a (omega arith))))
+      | no m ↦
+          (let z : i ≡ suc top = omega arith in rw z
+          (let e′ : below (suc top) q ≡ true = subst (λ j. below j q ≡ true) z e in rw e′ refl))
     ]
 
 -- or that no knot is
@@ -105,4 +105,3 @@ piecewise-none below first from q zero n = let e : below 0 q ≡ false = n 0 (om
 piecewise-none below first from q (suc top) n =
     let e : below (suc top) q ≡ false = n (suc top) (omega arith) in rw e
     (piecewise-none below first from q top (λ j l. n j (omega arith)))
-

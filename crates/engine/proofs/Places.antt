@@ -69,9 +69,11 @@ lag-piece S x y p q w w′ U U′ F F′ W W′ k k′ i j v v′ h =
         → Val (lag S p (whole y +ᶠ w)) ((S * up x + down y) * (den p * W) + S * U * W)
         ((S * down x + up y) * (den p * W) + F * den p) (den p * W)
     one p w U F W i v =
-        rw
-        (← lag-is S (up x) (down x) (up y) (down y) (den p) U W F .0, ← lag-is S (up x) (down x) (up y) (down y)
-        (den p) U W F .1)
+        rw (
+          ← lag-is S (up x) (down x) (up y) (down y) (den p) U W F .0,
+          ← lag-is S (up x) (down x) (up y) (down y)
+              (den p) U W F .1,
+        )
         (Val-lag S i (Val-shift y (Is-Val v)))
 
 -- ---- neighbouring knots

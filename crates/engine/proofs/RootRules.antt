@@ -33,10 +33,11 @@ entry-small i h =
 
 entry-step : (i : ℕ) → entry (suc i) ≤ entry i + 256
 entry-step i =
-    elim (decLe (entry (suc i)) (entry i + 256))
-    [ yes l ↦ l | no m ↦ absurd
-    (omega
-    (arith, root-low (65536 * suc i), root-high (65536 * i), squares (entry i + 257) (entry (suc i)) (omega arith)))
+    elim (decLe (entry (suc i)) (entry i + 256)) [
+      | yes l ↦ l
+      | no m ↦ absurd
+          (omega
+          (arith, root-low (65536 * suc i), root-high (65536 * i), squares (entry i + 257) (entry (suc i)) (omega arith)))
     ]
 
 law : Lawful rootKnot 1023
@@ -78,14 +79,14 @@ between : (n : ℕ) → n < 1023 → Same (rootE (whole (pos n))) (whole (pos (e
 unfolding rootE lineE
 between n h =
     let here : piecewise (λ i q. leᶠ (whole (rootKnot i .x)) q) (λ q. whole (rootKnot 0 .y)) (line-from rootKnot 1023)
-        1023 (whole (pos n)) ≡ line-exact (rootKnot n) (width rootKnot n) (height rootKnot n) (whole (pos n)) =
+    1023 (whole (pos n)) ≡ line-exact (rootKnot n) (width rootKnot n) (height rootKnot n) (whole (pos n)) =
     piecewise-at (λ i q. leᶠ (whole (rootKnot i .x)) q) (λ q. whole (rootKnot 0 .y)) (line-from rootKnot 1023)
-        (whole (pos n)) n (same-test (pos n) (pos n) ∙ sym (omega (arith, ints))) 1023 (omega arith)
-        (λ j a b. same-test (pos j) (pos n) ∙ sym (omega (arith, ints)))
+    (whole (pos n)) n (same-test (pos n) (pos n) ∙ sym (omega (arith, ints))) 1023 (omega arith)
+    (λ j a b. same-test (pos j) (pos n) ∙ sym (omega (arith, ints)))
     ∙ line-piece rootKnot 1023 law n (whole (pos n)) h in
     subst (λ e. Same e (whole (pos (entry n)))) (sym here)
-        (line-start (rootKnot n) (width rootKnot n) (height rootKnot n) (wide rootKnot 1023 law n h)
-        (inside rootKnot 1023 law n (whole (pos n)) h (≤ᶠ-refl (whole (pos n))) (x-order rootKnot 1023 law n h)))
+    (line-start (rootKnot n) (width rootKnot n) (height rootKnot n) (wide rootKnot 1023 law n h)
+    (inside rootKnot 1023 law n (whole (pos n)) h (≤ᶠ-refl (whole (pos n))) (x-order rootKnot 1023 law n h)))
 
 equal : {p q : Fraction} → p ≡ q → Same p q
 equal {p} {q} e = subst (λ r. Same p r) e (≤ᶠ-refl p, ≤ᶠ-refl p)

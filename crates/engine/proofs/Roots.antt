@@ -98,7 +98,7 @@ carried (s ∷ ss) i p t (suc k) h =
     let first = follows-parts i p s (a .0) in
     let e : suc i + k ≡ i + suc k = omega arith in
     subst (λ m. Entry m p (getD ss k 0)) e
-        (record { rising = le-trans (first .rising) (later .rising); low = later .low; high = later .high })
+    (record { rising = le-trans (first .rising) (later .rising); low = later .low; high = later .high })
 
 -- no entry is below an earlier one
 carried-rising : (xs : List ℕ) (i p : ℕ) → table-test i p xs ≡ true → (j k : ℕ) → j ≤ k → k < length xs

@@ -10,12 +10,14 @@ use Rattle.engine.specs.Coordinates.{Coordinate, Within, lowest, highest}
 use Rattle.engine.proofs.Orders.{≤ᶠ-out, ≤ᶠ-trans, whole-≤}
 use Rattle.engine.proofs.Terms.{Is, Is-Val, Val, val, Val-+, Val-same, Val-whole, Val-≤, Val-shift, shifted}
 
+-- the terms of q + n, for a natural n, and of q + c, for an integer c
 pub Val-add : (n : ℕ) {q : Fraction} {a b d : ℕ} → Val q a b d → Val (q +ᶠ whole (pos n)) (a + n * d) b d
 Val-add n {a = a} {b} {d} i = Val-same (omega arith) (omega arith) (omega arith) (Val-+ i (Val-whole (pos n)))
 
 pub Val-move : (c : ℤ) {q : Fraction} {a b d : ℕ} → Val q a b d → Val (q +ᶠ whole c) (up c * d + a) (down c * d + b) d
 Val-move c {a = a} {b} {d} i = Val-same (omega arith) (omega arith) (omega arith) (Val-+ i (Val-whole c))
 
+-- a / d - b / d does not pass itself with n added
 more : (a b d n : ℕ) → a * d + b * d ≤ (a + n * d) * d + b * d
 more a b d n = omega arith
 
@@ -39,6 +41,7 @@ pub +ᶠ-both : (c : ℤ) {p q : Fraction} → p ≤ᶠ q → p +ᶠ whole c ≤
     Val-≤ (omega arith) (omega arith) (Val-move c (val p)) (Val-move c (val q))
     (shifted (up c) (down c) (up (p .num)) (down (p .num)) (den p) (up (q .num)) (down (q .num)) (den q) (≤ᶠ-out h))
 
+-- y + p ≤ y + q
 pub +ᶠ-mono : (y : ℤ) {p q : Fraction} → p ≤ᶠ q → whole y +ᶠ p ≤ᶠ whole y +ᶠ q
 +ᶠ-mono y {p} {q} h =
     Val-≤ (omega arith) (omega arith) (Val-shift y (val p)) (Val-shift y (val q))
@@ -67,15 +70,17 @@ pub +ᶠ-twice : (r : Fraction) (m n : ℕ) → r +ᶠ whole (pos n) +ᶠ whole 
     go : (a b d : ℕ) → (a + n * d + m * d) * d + b * d ≤ (a + (m + n) * d) * d + b * d
     go a b d = omega arith
 
+-- p ≤ q + m and q ≤ r + n give p ≤ r + (m + n)
 pub steps : (m n : ℕ) (p q r : Fraction) → p ≤ᶠ q +ᶠ whole (pos m) → q ≤ᶠ r +ᶠ whole (pos n)
     → p ≤ᶠ r +ᶠ whole (pos (m + n))
 steps m n p q r h k = ≤ᶠ-trans h (≤ᶠ-trans (+ᶠ-both (pos m) k) (+ᶠ-twice r m n))
 
 -- x + c as a fraction
 pub whole-sum : (x c : ℤ) → (whole (x +ℤ c) ≤ᶠ whole x +ᶠ whole c) × (whole x +ᶠ whole c ≤ᶠ whole (x +ℤ c))
-whole-sum x c =
-    (Val-≤ (omega arith) (omega arith) (Val-whole (x +ℤ c)) (Val-move c (Val-whole x)) (omega (arith, parts)), Val-≤
-    (omega arith) (omega arith) (Val-move c (Val-whole x)) (Val-whole (x +ℤ c)) (omega (arith, parts)))
+whole-sum x c = (
+  Val-≤ (omega arith) (omega arith) (Val-whole (x +ℤ c)) (Val-move c (Val-whole x)) (omega (arith, parts)),
+  Val-≤ (omega arith) (omega arith) (Val-move c (Val-whole x)) (Val-whole (x +ℤ c)) (omega (arith, parts)),
+)
   where
     parts : up (x +ℤ c) + (down x + down c) ≡ down (x +ℤ c) + (up x + up c)
     parts = omega (arith, ints)
@@ -83,9 +88,10 @@ whole-sum x c =
 -- y plus a quotient that is the whole number n
 pub shift-whole : (y y′ : ℤ) (n : ℕ) {w : Fraction} {F W : ℕ} → y′ ≡ y +ℤ pos n → Is w F W → 0 < W → F ≡ n * W
     → (whole y +ᶠ w ≤ᶠ whole y′) × (whole y′ ≤ᶠ whole y +ᶠ w)
-shift-whole y y′ n {w} {F} {W} e i k f =
-    (Val-≤ k (omega arith) (Val-shift y (Is-Val i)) (Val-whole y′) (omega (arith, f, ap (λ m. m * W) moved)), Val-≤
-    (omega arith) k (Val-whole y′) (Val-shift y (Is-Val i)) (omega (arith, f, ap (λ m. m * W) moved)))
+shift-whole y y′ n {w} {F} {W} e i k f = (
+  Val-≤ k (omega arith) (Val-shift y (Is-Val i)) (Val-whole y′) (omega (arith, f, ap (λ m. m * W) moved)),
+  Val-≤ (omega arith) k (Val-whole y′) (Val-shift y (Is-Val i)) (omega (arith, f, ap (λ m. m * W) moved)),
+)
   where
     moved : up y′ + down y ≡ down y′ + up y + n
     moved = omega (arith, ints, e)
@@ -98,6 +104,6 @@ apart p q n fp fq h =
     ends : whole highest ≤ᶠ whole lowest +ᶠ whole (pos 16383)
     ends = Val-≤ (omega arith) (omega arith) (Val-whole highest) (Val-add 16383 (Val-whole lowest)) (omega arith)
 
+-- a coordinate is a fraction within the coordinates
 pub whole-within : (x : ℤ) → Coordinate x → Within (whole x)
 whole-within x h = record { low = whole-≤ lowest x (h .low); high = whole-≤ x highest (h .high) }
-

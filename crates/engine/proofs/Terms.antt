@@ -46,6 +46,7 @@ Is-/ {p} {a} {b} k h i = record {
 pub record Val (q : Fraction) (a b d : ℕ) : Type 0 where
   pub same : up (q .num) * d + b * den q ≡ a * den q + down (q .num) * d
 
+-- every fraction by its own terms, and a whole number over 1
 pub val : (q : Fraction) → Val q (up (q .num)) (down (q .num)) (den q)
 val q = record { same = omega arith }
 
@@ -55,19 +56,20 @@ Val-whole z = record { same = omega arith }
 pub Is-Val : {q : Fraction} {a b : ℕ} → Is q a b → Val q a 0 b
 Is-Val {q} {a} {b} i = record { same = rw (i .num-is) (omega (arith, i .same)) }
 
+-- the same terms under other names
 pub Val-same : {q : Fraction} {a b d a′ b′ d′ : ℕ} → a ≡ a′ → b ≡ b′ → d ≡ d′ → Val q a b d → Val q a′ b′ d′
 Val-same {q} e f g i = subst₃ (Val q) e f g i
 
 -- a sum's numerator, in naturals
 num-+ : (p q : Fraction)
-    → up ((p +ᶠ q) .num) + (down (p .num) * den q + down (q .num) * den p) ≡ down ((p +ᶠ q) .num) +
-    (up (p .num) * den q + up (q .num) * den p)
+    → up ((p +ᶠ q) .num) + (down (p .num) * den q + down (q .num) * den p)
+    ≡ down ((p +ᶠ q) .num) + (up (p .num) * den q + up (q .num) * den p)
 unfolding _+ᶠ_
 num-+ p q = omega (arith, ints)
 
 num-- : (p q : Fraction)
-    → up ((p -ᶠ q) .num) + (down (p .num) * den q + up (q .num) * den p) ≡ down ((p -ᶠ q) .num) +
-    (up (p .num) * den q + down (q .num) * den p)
+    → up ((p -ᶠ q) .num) + (down (p .num) * den q + up (q .num) * den p)
+    ≡ down ((p -ᶠ q) .num) + (up (p .num) * den q + down (q .num) * den p)
 unfolding _-ᶠ_
 num-- p q = omega (arith, ints)
 
@@ -91,25 +93,32 @@ times′ P N e a b d e′ d′ h = omega (arith, ap (λ n. n * (e′ * d′)) h)
 
 module _ (P N e a b d P′ N′ e′ a′ b′ d′ : ℕ) (i : P * d + b * e ≡ a * e + N * d)
     (j : P′ * d′ + b′ * e′ ≡ a′ * e′ + N′ * d′) where
-  scaled : (P * e′ + P′ * e) * (d * d′) + (b * d′ + b′ * d) * (e * e′) ≡ (a * d′ + a′ * d) * (e * e′) +
-      (N * e′ + N′ * e) * (d * d′)
+  -- the sum of two such equations, over one denominator
+  scaled : (P * e′ + P′ * e) * (d * d′) + (b * d′ + b′ * d) * (e * e′)
+      ≡ (a * d′ + a′ * d) * (e * e′) + (N * e′ + N′ * e) * (d * d′)
   scaled = simp add-mul (omega (arith, times P N e a b d e′ d′ i, times′ P′ N′ e′ a′ b′ d′ e d j))
 
+  -- an order of the terms is the order of the fractions
   crossed : 0 < d → 0 < d′ → a * d′ + b′ * d ≤ a′ * d + b * d′ → P * e′ + N′ * e ≤ P′ * e + N * e′
   crossed hd hd′ h =
       le-of-mul-le-mul-right {k = d * d′}
       (simp add-mul
-      (omega
-      (arith, times P N e a b d e′ d′ i, times′ P′ N′ e′ a′ b′ d′ e d j, simp add-mul at
-      (mul-le-mul-right (e * e′) h))))
+      (omega (
+        arith,
+        times P N e a b d e′ d′ i,
+        times′ P′ N′ e′ a′ b′ d′ e d j,
+        simp add-mul at (mul-le-mul-right (e * e′) h),
+      )))
       (mul-le-mul hd hd′)
 
+-- the same of the sum's own numerator U - W
 sum-same : (P N e a b d P′ N′ e′ a′ b′ d′ U W : ℕ) → P * d + b * e ≡ a * e + N * d
     → P′ * d′ + b′ * e′ ≡ a′ * e′ + N′ * d′ → U + (N * e′ + N′ * e) ≡ W + (P * e′ + P′ * e)
     → U * (d * d′) + (b * d′ + b′ * d) * (e * e′) ≡ (a * d′ + a′ * d) * (e * e′) + W * (d * d′)
 sum-same P N e a b d P′ N′ e′ a′ b′ d′ U W i j n =
     omega (arith, scaled P N e a b d P′ N′ e′ a′ b′ d′ i j, ap (λ n. n * (d * d′)) n)
 
+-- sums and differences by their terms
 pub Val-+ : {p q : Fraction} {a b d a′ b′ d′ : ℕ} → Val p a b d → Val q a′ b′ d′
     → Val (p +ᶠ q) (a * d′ + a′ * d) (b * d′ + b′ * d) (d * d′)
 Val-+ {p} {q} {a} {b} {d} {a′} {b′} {d′} i j = record {
@@ -131,19 +140,20 @@ pub Val-≤ : {p q : Fraction} {a b d a′ b′ d′ : ℕ} → 0 < d → 0 < d�
     → a * d′ + b′ * d ≤ a′ * d + b * d′ → p ≤ᶠ q
 Val-≤ {p} {q} {a} {b} {d} {a′} {b′} {d′} hd hd′ i j h =
     ≤ᶠ-in p q
-        (crossed (up (p .num)) (down (p .num)) (den p) a b d (up (q .num)) (down (q .num)) (den q) a′ b′ d′ (i .same)
-        (j .same) hd hd′ h)
+    (crossed (up (p .num)) (down (p .num)) (den p) a b d (up (q .num)) (down (q .num)) (den q) a′ b′ d′ (i .same)
+    (j .same) hd hd′ h)
 
 pub Val-≤-out : {p q : Fraction} {a b d a′ b′ d′ : ℕ} → Val p a b d → Val q a′ b′ d′ → p ≤ᶠ q
     → a * d′ + b′ * d ≤ a′ * d + b * d′
 Val-≤-out {p} {q} {a} {b} {d} {a′} {b′} {d′} i j h =
     crossed a b d (up (p .num)) (down (p .num)) (den p) a′ b′ d′ (up (q .num)) (down (q .num)) (den q)
-        (back (up (p .num)) (down (p .num)) (den p) a b d (i .same))
-        (back (up (q .num)) (down (q .num)) (den q) a′ b′ d′ (j .same)) (omega arith) (omega arith) (≤ᶠ-out h)
+    (back (up (p .num)) (down (p .num)) (den p) a b d (i .same))
+    (back (up (q .num)) (down (q .num)) (den q) a′ b′ d′ (j .same)) (omega arith) (omega arith) (≤ᶠ-out h)
   where
     back : (P N e a b d : ℕ) → P * d + b * e ≡ a * e + N * d → a * e + N * d ≡ P * d + b * e
     back P N e a b d h = sym h
 
+-- the order of two quotients
 pub Is-≤ : {p q : Fraction} {a b c d : ℕ} → 0 < b → 0 < d → Is p a b → Is q c d → a * d ≤ c * b → p ≤ᶠ q
 Is-≤ hb hd i j h = Val-≤ hb hd (Is-Val i) (Is-Val j) (omega arith)
 
@@ -157,9 +167,8 @@ pub Val-shift : (y : ℤ) {p : Fraction} {a b d : ℕ} → Val p a b d
     → Val (whole y +ᶠ p) (up y * d + a) (down y * d + b) d
 Val-shift y {p} {a} {b} {d} i = record { same = go (Val-+ (Val-whole y) i .same) }
   where
-    go : up ((whole y +ᶠ p) .num) * (1 * d) + (down y * d + b * 1) * den (whole y +ᶠ p) ≡ (up y * d + a * 1) * den
-        (whole y +ᶠ p) + down ((whole y +ᶠ p) .num) * (1 * d)
-        → up ((whole y +ᶠ p) .num) * d + (down y * d + b) * den (whole y +ᶠ p) ≡ (up y * d + a) * den (whole y +ᶠ p) +
-        down ((whole y +ᶠ p) .num) * d
+    go : up ((whole y +ᶠ p) .num) * (1 * d) + (down y * d + b * 1) * den (whole y +ᶠ p)
+        ≡ (up y * d + a * 1) * den (whole y +ᶠ p) + down ((whole y +ᶠ p) .num) * (1 * d)
+        → up ((whole y +ᶠ p) .num) * d + (down y * d + b) * den (whole y +ᶠ p)
+        ≡ (up y * d + a) * den (whole y +ᶠ p) + down ((whole y +ᶠ p) .num) * d
     go h = simp (mul-one, one-mul) at h
-

@@ -12,7 +12,10 @@ use Rattle.engine.specs.declared.band.Band.{Band}
 
 -- why a and b make no band: one of them is no coordinate; then, they are reversed
 abbrev pub bandRefusal : ℤ → ℤ → Option ℕ
-bandRefusal a b = cond (not (coordinate a && coordinate b)) (Some not-coordinate) (cond (ltZ b a) (Some out-of-limits) None)
+bandRefusal a b =
+    cond (not (coordinate a && coordinate b)) (Some not-coordinate)
+    (cond (ltZ b a) (Some out-of-limits)
+    None)
 
 -- the band from a to b
 abbrev pub IsBand : ℤ → ℤ → Band → Type 0

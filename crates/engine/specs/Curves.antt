@@ -30,7 +30,7 @@ pub record Rules (m : Meaning) : Type 0 where
   pub exact-mono : (p q : Fraction) → Within p → Within q → p ≤ᶠ q → m .E p ≤ᶠ m .E q
   -- from p to at most p + n, for a whole number n, the exact value rises by at most S × n
   pub exact-rise : (n : ℕ) (p q : Fraction) → Within p → Within q → p ≤ᶠ q → q ≤ᶠ p +ᶠ whole (pos n)
-    → m .E q ≤ᶠ m .E p +ᶠ whole (pos (m .S * n))
+      → m .E q ≤ᶠ m .E p +ᶠ whole (pos (m .S * n))
   -- the value is at most R below the exact value, and at most R above it
   pub value-low : (x : ℤ) → Coordinate x → m .E (whole x) ≤ᶠ whole (m .V x) +ᶠ whole (pos (m .R))
   pub value-high : (x : ℤ) → Coordinate x → whole (m .V x) ≤ᶠ m .E (whole x) +ᶠ whole (pos (m .R))
@@ -44,11 +44,13 @@ bare = meaning (λ x. x) (λ q. q) 1 0
 
 -- g after f: the value of f is the argument of g
 abbrev pub chain : Meaning → Meaning → Meaning
-chain g f = meaning (λ x. g .V (f .V x)) (λ q. g .E (f .E q)) (min (g .S * f .S) 16383) (min (g .R + g .S * f .R) 16383)
+chain g f =
+    meaning (λ x. g .V (f .V x)) (λ q. g .E (f .E q)) (min (g .S * f .S) 16383) (min (g .R + g .S * f .R) 16383)
 
 -- the curve below moved by c, held to the coordinates
 abbrev pub offset : ℤ → Meaning → Meaning
-offset c m = meaning (λ x. hold lowest highest (m .V x +ℤ c)) (λ q. holdᶠ lowest highest (m .E q +ᶠ whole c)) (m .S) (m .R)
+offset c m =
+    meaning (λ x. hold lowest highest (m .V x +ℤ c)) (λ q. holdᶠ lowest highest (m .E q +ᶠ whole c)) (m .S) (m .R)
 
 -- the curve below held to the band a..b
 abbrev pub clamp : ℤ → ℤ → Meaning → Meaning

@@ -24,7 +24,8 @@ pub record Plain-curves : Type 0 where
 pub record Layers-keep : Type 0 where
   pub chain-keeps : (g f : Meaning) → Rules g → Rules f → Rules (chain g f)
   pub offset-keeps : (c : ℤ) (m : Meaning) → Rules m → Rules (offset c m)
-  pub clamp-keeps : (a b : ℤ) (m : Meaning) → Coordinate a → Coordinate b → a ≤ℤ b → Rules m → Rules (clamp a b m)
+  pub clamp-keeps : (a b : ℤ) (m : Meaning) → Coordinate a → Coordinate b → a ≤ℤ b → Rules m
+      → Rules (clamp a b m)
 
 -- worked readings
 pub record Worked-readings : Type 0 where

@@ -20,18 +20,12 @@ pub fn is_coordinate(x: i32) -> bool
 pub(crate) fn held(x: i32) -> i32
     ensures { λ r. ⌜ r ≡ hold lowest highest x ⌝ }
 {
-    if x < LOWEST {
-        LOWEST
-    } else if x > HIGHEST {
-        HIGHEST
-    } else {
-        x
-    }
+    x.clamp(LOWEST, HIGHEST)
 }
 
 /// A rise or a radius held to 0..16383.
 pub(crate) fn capped(n: u32) -> u16
     ensures { λ r. ⌜ r ≡ min n 16383 ⌝ }
 {
-    if n > 16383 { 16383 } else { n as u16 }
+    n.min(16383) as u16
 }

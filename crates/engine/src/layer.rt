@@ -1,8 +1,9 @@
 //! The layers: curves made over other curves, which they hold by value.
 
 ghost use mathlib.Core.Path.{_≡_};
+ghost use lib.IntN.{_+ℤ_};
 ghost use lib.Signed.{_≤ℤ_};
-ghost use Rattle.engine.specs.Coordinates.{hold, least-shift, greatest-shift};
+ghost use Rattle.engine.specs.Coordinates.{Coordinate, hold, least-shift, greatest-shift};
 ghost use Rattle.engine.specs.Curves.{chain, offset, clamp};
 ghost use Rattle.engine.specs.Means.{means};
 use super::band::Band;
@@ -44,7 +45,10 @@ pub impl<G: Curve, F: Curve> Curve for Chain<G, F> as ChainCurve {
     }
 
     fn radius(&self) -> u16 {
-        capped(u32::from(self.outer.radius()) + u32::from(self.outer.rise()) * u32::from(self.inner.radius()))
+        capped(
+            u32::from(self.outer.radius())
+                + u32::from(self.outer.rise()) * u32::from(self.inner.radius()),
+        )
     }
 }
 
@@ -64,22 +68,19 @@ impl<C> Offset<C> {
     {
         Offset {
             below,
-            shift: held_shift(c),
+            shift: c.clamp(-16383, 16383),
         }
     }
 }
 
-// c held to -16383..16383
-fn held_shift(c: i32) -> i32
-    ensures { λ r. ⌜ r ≡ hold least-shift greatest-shift c ⌝ }
+// A value moved by a shift.
+fn moved(v: i32, shift: i32) -> i32
+    requires { ⌜ Coordinate v ⌝ }
+    requires { ⌜ least-shift ≤ℤ shift ⌝ }
+    requires { ⌜ shift ≤ℤ greatest-shift ⌝ }
+    ensures { λ r. ⌜ r ≡ v +ℤ shift ⌝ }
 {
-    if c < -16383 {
-        -16383
-    } else if c > 16383 {
-        16383
-    } else {
-        c
-    }
+    v + shift
 }
 
 pub impl<C: Curve> Curve for Offset<C> as OffsetCurve {
@@ -92,7 +93,7 @@ pub impl<C: Curve> Curve for Offset<C> as OffsetCurve {
     ghost R = { λ s. offset (s .shift) (means C·Curve (s .below)) .R };
 
     fn value(&self, x: i32) -> i32 {
-        held(self.below.value(x) + self.shift)
+        held(moved(self.below.value(x), self.shift))
     }
 
     fn rise(&self) -> u16 {

@@ -30,13 +30,7 @@ fn slot(x: i32) -> usize
     ensures is { λ r. ⌜ r ≡ natAbs (hold (pos 0) (pos 1023) x) ⌝ }
     ensures small { λ r. ⌜ r < 1024 ⌝ }
 {
-    if x < 0 {
-        0
-    } else if x > 1023 {
-        1023
-    } else {
-        x as usize
-    }
+    x.clamp(0, 1023) as usize
 }
 
 /// The root curve: at x from 0 to 1023 the greatest whole number whose square is at most 65536 x, flat beyond.

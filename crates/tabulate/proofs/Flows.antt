@@ -5,11 +5,11 @@ use lib.IntN.{ℤ, pos, natAbs}
 use lib.Signed.{_≤ℤ_}
 use native.Mathlib.Omega.{arith}
 use borrow.Author.Differences.{ints}
-use Rattle.engine.specs.Coordinates.{Coordinate, hold}
+use Rattle.engine.specs.Coordinates.{Coordinate}
 use Rattle.engine.specs.Curves.{Meaning, Rules, bare, chain, offset, clamp}
 use Rattle.engine.specs.Root.{rootCurve}
 use Rattle.engine.specs.declared.band.Band.{Band}
-use Rattle.engine.proofs.Holds.{band-ends}
+use Rattle.engine.proofs.Holds.{band-ends, hold-low, hold-high}
 use Rattle.engine.proofs.Layers.{bare-rules, chain-rules, offset-rules, clamp-rules}
 use Rattle.engine.proofs.RootRules.{root-rules}
 use Rattle.tabulate.specs.Tables.{Tabulates}
@@ -19,13 +19,6 @@ use Rattle.tabulate.specs.declared.nozzle.Settings.{Settings}
 use Rattle.tabulate.specs.declared.nozzle.Plan.{Plan}
 use Rattle.tabulate.specs.declared.table.Table.{Table}
 use Rattle.tabulate.proofs.Laws.{faithful, each-value}
-
--- a number held to a band lies in it
-hold-low : (a b : ℤ) → a ≤ℤ b → (x : ℤ) → a ≤ℤ hold a b x
-hold-low a b h x = grind (arith, ints)
-
-hold-high : (a b : ℤ) → a ≤ℤ b → (x : ℤ) → hold a b x ≤ℤ b
-hold-high a b h x = grind (arith, ints)
 
 -- the pile of layers, by its numbers
 unfoldable pub pile : (low high trim zero : ℤ) → Meaning

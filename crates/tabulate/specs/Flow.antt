@@ -28,7 +28,8 @@ held-shift = hold least-shift greatest-shift
 
 -- the root of the reading plus zero, plus trim, held to low..high
 abbrev pub flowCurve : Settings → Meaning
-flowCurve s = clamp (s .low) (s .high) (offset (held-shift (s .trim)) (chain rootCurve (offset (held-shift (s .zero)) bare)))
+flowCurve s =
+    clamp (s .low) (s .high) (offset (held-shift (s .trim)) (chain rootCurve (offset (held-shift (s .zero)) bare)))
 
 -- the curve in the code has these parts
 pub record Flows (zero trim : ℤ) (limit : Band) (c : Clamp (Offset (Chain Root (Offset Bare)))) : Type 0 where
@@ -54,7 +55,8 @@ pub record IsStep (step : ℤ) (n : ℕ) : Type 0 where
 
 -- the limit is a band, then the span is one, then the step is lawful
 abbrev pub settingsRefusal : Settings → Option ℕ
-settingsRefusal s = orElse (bandRefusal (s .low) (s .high)) (orElse (bandRefusal (s .first) (s .last)) (stepRefusal (s .step)))
+settingsRefusal s =
+    orElse (bandRefusal (s .low) (s .high)) (orElse (bandRefusal (s .first) (s .last)) (stepRefusal (s .step)))
 
 -- what lawful settings are taken for
 pub record Planned (s : Settings) (p : Plan) : Type 0 where

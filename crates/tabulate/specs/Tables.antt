@@ -55,8 +55,11 @@ pub record Faithful (m : Meaning) (first last : ℤ) (step : ℕ) (t : Table) : 
   pub inside : (i : ℕ) → i < count t → readingAt first step i ≤ℤ last
   pub reads : (i : ℕ) → i < count t → reading t i ≡ readingAt first step i
   -- each value lies within the told radius of the exact curve at its reading
-  pub near-low : (i : ℕ) → i < count t → m .E (whole (reading t i)) ≤ᶠ whole (value t i) +ᶠ whole (pos (t .radius))
-  pub near-high : (i : ℕ) → i < count t → whole (value t i) ≤ᶠ m .E (whole (reading t i)) +ᶠ whole (pos (t .radius))
+  pub near-low : (i : ℕ) → i < count t
+      → m .E (whole (reading t i)) ≤ᶠ whole (value t i) +ᶠ whole (pos (t .radius))
+  pub near-high : (i : ℕ) → i < count t
+      → whole (value t i) ≤ᶠ m .E (whole (reading t i)) +ᶠ whole (pos (t .radius))
   -- no value is below the one before, nor above it by more than the told rise over a step and the radius on both sides
   pub steady : (i : ℕ) → suc i < count t → value t i ≤ℤ value t (suc i)
-  pub gentle : (i : ℕ) → suc i < count t → value t (suc i) ≤ℤ (value t i +ℤ pos (t .rise * step + 2 * t .radius))
+  pub gentle : (i : ℕ) → suc i < count t
+      → value t (suc i) ≤ℤ (value t i +ℤ pos (t .rise * step + 2 * t .radius))

@@ -67,8 +67,10 @@ fn write_table(rt: &LibcRuntime, table: &Table) -> Result<(), AnyError> {
 }
 
 fn told(rt: &LibcRuntime, fault: Fault) -> Result<AnyError, AnyError> {
-    Ok(match fault.number() {
-        Some(number) => format!(rt.alloc(), "refused {number}")?.into(),
-        None => "out of memory".into(),
-    })
+    Ok(
+        match fault.number() {
+            Some(number) => format!(rt.alloc(), "refused {number}")?.into(),
+            None => "out of memory".into(),
+        },
+    )
 }

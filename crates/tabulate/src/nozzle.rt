@@ -5,24 +5,24 @@ ghost use Rattle.engine.specs.Refusals.{Outcome};
 ghost use Rattle.std.specs.Vec.{made};
 ghost use Rattle.tabulate.specs.Answers.{Tabulated, Flow-law};
 ghost use Rattle.tabulate.specs.Flow.{Flows, IsStep, Planned, settingsRefusal, stepRefusal};
-use engine::band::Band;
-use engine::curve::Bare;
-use engine::layer::Chain;
-use engine::layer::Clamp;
-use engine::layer::Offset;
-use engine::refusal::Refusal;
-use engine::root::Root;
-use std::alloc::Global;
 use super::fault::Fault;
 use super::table::Table;
 use super::table::table_of;
 use crate::fault::FaultFromAlloc;
 use crate::fault::FaultFromRefusal;
+use engine::band::Band;
+use engine::curve::Bare;
 use engine::curve::BareCurve;
+use engine::layer::Chain;
 use engine::layer::ChainCurve;
+use engine::layer::Clamp;
 use engine::layer::ClampCurve;
+use engine::layer::Offset;
 use engine::layer::OffsetCurve;
+use engine::refusal::Refusal;
+use engine::root::Root;
 use engine::root::RootCurve;
+use std::alloc::Global;
 
 /// The settings of a nozzle row, as an engineer types them.
 #[derive(Clone, Copy)]

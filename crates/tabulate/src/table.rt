@@ -29,7 +29,12 @@ pub struct Table {
 }
 
 /// The table of a curve at the first reading of the span and every step-th after it.
-pub(crate) fn table_of<C: Curve>(heap: Global, curve: &C, span: Band, step: u32) -> Result<Table, AllocError>
+pub(crate) fn table_of<C: Curve>(
+    heap: Global,
+    curve: &C,
+    span: Band,
+    step: u32,
+) -> Result<Table, AllocError>
     requires { ⌜ 1 ≤ step ⌝ }
     ensures { λ r. ⌜ made r (Tabulates (means C·Curve (now (curve .entry))) (span .lo) (span .hi) step) ⌝ }
 {

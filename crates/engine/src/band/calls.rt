@@ -52,19 +52,13 @@ impl Band {
     pub fn contains(&self, x: i32) -> bool
         ensures { λ r. ⌜ r ≡ inBand (now (self .entry) .lo) (now (self .entry) .hi) x ⌝ }
     {
-        self.lo <= x && x <= self.hi
+        x >= self.lo && x <= self.hi
     }
 
     /// x held to the band: its first reading below it, its last above it, otherwise x.
     pub fn hold(&self, x: i32) -> i32
         ensures { λ r. ⌜ r ≡ hold (now (self .entry) .lo) (now (self .entry) .hi) x ⌝ }
     {
-        if x < self.lo {
-            self.lo
-        } else if x > self.hi {
-            self.hi
-        } else {
-            x
-        }
+        x.clamp(self.lo, self.hi)
     }
 }
