@@ -35,7 +35,7 @@ module _ (a b : ℤ) (band : a ≤ℤ b) where
   pub held-near : (p q : Fraction) (n : ℕ) → p ≤ᶠ q +ᶠ whole (pos n) → holdᶠ a b p ≤ᶠ holdᶠ a b q +ᶠ whole (pos n)
   held-near p q n h =
       held-cases (λ r. holdᶠ a b p ≤ᶠ r +ᶠ whole (pos n)) q
-      (λ j. held-least p _ (+ᶠ-up (whole a) n) (≤ᶠ-trans h (+ᶠ-both (pos n) j)))
+      (λ j. held-least p _ (+ᶠ-up (whole a) n) (≤ᶠ-trans h (+ᶠ-both (whole (pos n)) j)))
       (λ _. ≤ᶠ-trans (held-high p) (+ᶠ-up (whole b) n))
       (λ j _. held-least p _ (≤ᶠ-trans j (+ᶠ-up q n)) h)
 

@@ -59,7 +59,7 @@ high-fits = record { low = record { le = tt }; high = record { le = tt } }
 moved-low : (c : ℤ) (m : Meaning) → Rules m → (x : ℤ) → Coordinate x
     → m .E (whole x) +ᶠ whole c ≤ᶠ whole (m .V x +ℤ c) +ᶠ whole (pos (m .R))
 moved-low c m k x cx =
-    ≤ᶠ-trans (+ᶠ-moved c (m .R) _ _ (k .value-low x cx)) (+ᶠ-both (pos (m .R)) (whole-sum (m .V x) c .1))
+    ≤ᶠ-trans (+ᶠ-moved c (m .R) _ _ (k .value-low x cx)) (+ᶠ-both (whole (pos (m .R))) (whole-sum (m .V x) c .1))
 
 moved-high : (c : ℤ) (m : Meaning) → Rules m → (x : ℤ) → Coordinate x
     → whole (m .V x +ℤ c) ≤ᶠ m .E (whole x) +ᶠ whole c +ᶠ whole (pos (m .R))
@@ -76,7 +76,7 @@ offset-rules c m k = record {
   value-mono =
       λ x y cx cy h. hold-mono lowest highest all _ _ (sum-mono (m .V x) (m .V y) c (k .value-mono x y cx cy h));
   exact-fits = λ q _. held-within lowest highest all low-fits high-fits (m .E q +ᶠ whole c);
-  exact-mono = λ p q fp fq h. held-mono lowest highest all _ _ (+ᶠ-both c (k .exact-mono p q fp fq h));
+  exact-mono = λ p q fp fq h. held-mono lowest highest all _ _ (+ᶠ-both (whole c) (k .exact-mono p q fp fq h));
   exact-rise =
       λ n p q fp fq h w. held-near lowest highest all _ _ _ (+ᶠ-moved c _ _ _ (k .exact-rise n p q fp fq h w));
   value-low =

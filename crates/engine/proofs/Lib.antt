@@ -1,6 +1,7 @@
 pub mod Orders
 pub mod Terms
 pub mod Sums
+pub mod Arithmetic
 pub mod Lags
 pub mod Floors
 pub mod Holds

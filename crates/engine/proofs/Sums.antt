@@ -1,7 +1,7 @@
--- Sums of a fraction and a whole number.
+-- Sums of fractions, most of them with a whole number.
 use Prim.Native.Nat.{ℕ, _+_, _*_, _≤_, _<_}
 use mathlib.Core.Path.{_≡_, ap}
-use native.Mathlib.Nat.{mul-le-mul-right}
+use native.Mathlib.Nat.{mul-le-mul-right, add-mul}
 use native.Mathlib.Omega.{arith}
 use lib.IntN.{ℤ, pos, _+ℤ_}
 use borrow.Author.Differences.{ints, up, down}
@@ -35,11 +35,25 @@ pub +ᶠ-more : (p : Fraction) (m n : ℕ) → m ≤ n → p +ᶠ whole (pos m) 
     go : (a b d : ℕ) → (a + m * d) * d + b * d ≤ (a + n * d) * d + b * d
     go a b d = omega (arith, mul-le-mul-right (d * d) h)
 
--- p + c ≤ q + c
-pub +ᶠ-both : (c : ℤ) {p q : Fraction} → p ≤ᶠ q → p +ᶠ whole c ≤ᶠ q +ᶠ whole c
-+ᶠ-both c {p} {q} h =
-    Val-≤ (omega arith) (omega arith) (Val-move c (val p)) (Val-move c (val q))
-    (shifted (up c) (down c) (up (p .num)) (down (p .num)) (den p) (up (q .num)) (down (q .num)) (den q) (≤ᶠ-out h))
+-- p + r ≤ q + r
+pub +ᶠ-both : (r : Fraction) {p q : Fraction} → p ≤ᶠ q → p +ᶠ r ≤ᶠ q +ᶠ r
++ᶠ-both r {p} {q} h =
+    Val-≤ (omega arith) (omega arith) (Val-+ (val p) (val r)) (Val-+ (val q) (val r))
+    (go (up (p .num)) (down (p .num)) (den p) (up (q .num)) (down (q .num)) (den q) (up (r .num)) (down (r .num)) (den r)
+    (≤ᶠ-out h))
+  where
+    swap : (m d d′ f : ℕ) → m * d * (d′ * f) ≡ m * d′ * (d * f)
+    swap m d d′ f = omega arith
+
+    gain : (a b d a′ b′ d′ f : ℕ) → a * d′ + b′ * d ≤ a′ * d + b * d′
+        → a * f * (d′ * f) + b′ * f * (d * f) ≤ a′ * f * (d * f) + b * f * (d′ * f)
+    gain a b d a′ b′ d′ f h = omega (arith, mul-le-mul-right (f * f) h)
+
+    go : (a b d a′ b′ d′ m n f : ℕ) → a * d′ + b′ * d ≤ a′ * d + b * d′
+        → (a * f + m * d) * (d′ * f) + (b′ * f + n * d′) * (d * f)
+        ≤ (a′ * f + m * d′) * (d * f) + (b * f + n * d) * (d′ * f)
+    go a b d a′ b′ d′ m n f h =
+        simp add-mul (omega (arith, swap m d d′ f, swap n d d′ f, gain a b d a′ b′ d′ f h))
 
 -- y + p ≤ y + q
 pub +ᶠ-mono : (y : ℤ) {p q : Fraction} → p ≤ᶠ q → whole y +ᶠ p ≤ᶠ whole y +ᶠ q
@@ -59,7 +73,7 @@ swapped r n c =
 -- p ≤ q + n, moved by c
 pub +ᶠ-moved : (c : ℤ) (n : ℕ) (p q : Fraction) → p ≤ᶠ q +ᶠ whole (pos n)
     → p +ᶠ whole c ≤ᶠ q +ᶠ whole c +ᶠ whole (pos n)
-+ᶠ-moved c n p q h = ≤ᶠ-trans (+ᶠ-both c h) (swapped q n c)
++ᶠ-moved c n p q h = ≤ᶠ-trans (+ᶠ-both (whole c) h) (swapped q n c)
 
 -- r + n + m ≤ r + (m + n)
 pub +ᶠ-twice : (r : Fraction) (m n : ℕ) → r +ᶠ whole (pos n) +ᶠ whole (pos m) ≤ᶠ r +ᶠ whole (pos (m + n))
@@ -73,7 +87,7 @@ pub +ᶠ-twice : (r : Fraction) (m n : ℕ) → r +ᶠ whole (pos n) +ᶠ whole 
 -- p ≤ q + m and q ≤ r + n give p ≤ r + (m + n)
 pub steps : (m n : ℕ) (p q r : Fraction) → p ≤ᶠ q +ᶠ whole (pos m) → q ≤ᶠ r +ᶠ whole (pos n)
     → p ≤ᶠ r +ᶠ whole (pos (m + n))
-steps m n p q r h k = ≤ᶠ-trans h (≤ᶠ-trans (+ᶠ-both (pos m) k) (+ᶠ-twice r m n))
+steps m n p q r h k = ≤ᶠ-trans h (≤ᶠ-trans (+ᶠ-both (whole (pos m)) k) (+ᶠ-twice r m n))
 
 -- x + c as a fraction
 pub whole-sum : (x c : ℤ) → (whole (x +ℤ c) ≤ᶠ whole x +ᶠ whole c) × (whole x +ᶠ whole c ≤ᶠ whole (x +ℤ c))
@@ -99,7 +113,7 @@ shift-whole y y′ n {w} {F} {W} e i k f = (
 -- two fractions within the coordinates are never further apart than 16383
 pub apart : (p q : Fraction) (n : ℕ) → Within p → Within q → 16383 ≤ n → p ≤ᶠ q +ᶠ whole (pos n)
 apart p q n fp fq h =
-    ≤ᶠ-trans (fp .high) (≤ᶠ-trans ends (≤ᶠ-trans (+ᶠ-both (pos 16383) (fq .low)) (+ᶠ-more q 16383 n h)))
+    ≤ᶠ-trans (fp .high) (≤ᶠ-trans ends (≤ᶠ-trans (+ᶠ-both (whole (pos 16383)) (fq .low)) (+ᶠ-more q 16383 n h)))
   where
     ends : whole highest ≤ᶠ whole lowest +ᶠ whole (pos 16383)
     ends = Val-≤ (omega arith) (omega arith) (Val-whole highest) (Val-add 16383 (Val-whole lowest)) (omega arith)

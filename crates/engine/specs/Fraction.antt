@@ -49,6 +49,11 @@ infix 5 _≤ᶠ_
 pub record _≤ᶠ_ (p q : Fraction) : Type 0 where
   pub cross : (p .num *ℤ pos (den q)) ≤ℤ (q .num *ℤ pos (den p))
 
+-- p and q are the same number
+infix 5 _≈ᶠ_
+abbrev pub _≈ᶠ_ : Fraction → Fraction → Type 0
+p ≈ᶠ q = (p ≤ᶠ q) × (q ≤ᶠ p)
+
 -- the tests for p ≤ q and p < q
 abbrev pub leᶠ : Fraction → Fraction → Bool
 leᶠ p q = leZ (p .num *ℤ pos (den q)) (q .num *ℤ pos (den p))

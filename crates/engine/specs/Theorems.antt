@@ -1,12 +1,28 @@
 -- What is proved of the definitions, as statements that contracts name.
-use Prim.Native.Nat.{ℕ, _*_}
+use Prim.Native.Nat.{ℕ, _*_, _<_}
 use mathlib.Core.Path.{_≡_}
-use lib.IntN.{ℤ, pos, negsuc}
+use mathlib.Core.Logic.{_⊎_}
+use lib.IntN.{ℤ, pos, negsuc, _+ℤ_, _*ℤ_}
 use lib.Signed.{_≤ℤ_}
-use Rattle.engine.specs.Fraction.{Fraction, whole, _÷_, _+ᶠ_, floorᶠ, ceilᶠ, roundᶠ, Greatest-not-above, Least-not-below}
+use Rattle.engine.specs.Fraction.{Fraction, whole, _÷_, _+ᶠ_, _-ᶠ_, _*ᶠ_, _/ᶠ_, _≤ᶠ_, _≈ᶠ_}
+use Rattle.engine.specs.Fraction.{floorᶠ, ceilᶠ, roundᶠ, Greatest-not-above, Least-not-below}
 use Rattle.engine.specs.Coordinates.{Coordinate}
 use Rattle.engine.specs.Curves.{Meaning, Rules, bare, chain, offset, clamp}
 use Rattle.engine.specs.Root.{entry, rootV, rootCurve, Greatest-root}
+
+-- fractions are ordered and computed with as the numbers that they stand for
+pub record Fraction-rules : Type 0 where
+  pub reflexive : (p : Fraction) → p ≤ᶠ p
+  pub transitive : (p q r : Fraction) → p ≤ᶠ q → q ≤ᶠ r → p ≤ᶠ r
+  pub total : (p q : Fraction) → (p ≤ᶠ q) ⊎ (q ≤ᶠ p)
+  pub whole-up : (a b : ℤ) → a ≤ℤ b → whole a ≤ᶠ whole b
+  pub whole-down : (a b : ℤ) → whole a ≤ᶠ whole b → a ≤ℤ b
+  pub whole-sum : (a b : ℤ) → whole a +ᶠ whole b ≈ᶠ whole (a +ℤ b)
+  pub whole-product : (a b : ℤ) → whole a *ᶠ whole b ≈ᶠ whole (a *ℤ b)
+  pub sum-keeps-order : (p q r : Fraction) → p ≤ᶠ q → p +ᶠ r ≤ᶠ q +ᶠ r
+  pub difference : (p q : Fraction) → p -ᶠ q +ᶠ q ≈ᶠ p
+  pub quotient : (n : ℤ) (d : ℕ) → 0 < d → n ÷ d *ᶠ whole (pos d) ≈ᶠ whole n
+  pub quotient-of : (p : Fraction) (k : ℕ) → 0 < k → p /ᶠ k *ᶠ whole (pos k) ≈ᶠ p
 
 -- rounding does what its words say
 pub record Rounding-rules : Type 0 where

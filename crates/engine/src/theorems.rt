@@ -1,6 +1,13 @@
 //! Theorems over the definitions. A function here does nothing: its contract is the theorem.
 
-ghost use Rattle.engine.specs.Theorems.{Rounding-rules, Plain-curves, Layers-keep, Worked-readings};
+ghost use Rattle.engine.specs.Theorems.{Fraction-rules, Rounding-rules, Plain-curves, Layers-keep, Worked-readings};
+
+/// Fractions are ordered and computed with as the numbers that they stand for.
+pub fn fraction_rules() -> u8
+    ensures { λ _. ⌜ Fraction-rules ⌝ }
+{
+    0
+}
 
 /// Rounding down, up and to nearest give the whole numbers that their words name.
 pub fn rounding_rules() -> u8

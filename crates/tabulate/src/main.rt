@@ -2,7 +2,7 @@
 //!
 //! Standard input has seven whole numbers, ZERO TRIM LOW HIGH FIRST LAST STEP (see `nozzle::Settings`).
 //! Standard output gets a line `READING FLOW` for each reading, and a last line with their number, the rise and the
-//! radius. A refusal is told by its number on standard error, with status 1.
+//! radius. A refusal is told by its number on standard error, with status 1. `docs/tabulate.md` has it all.
 
 use fault::Fault;
 use nozzle::Settings;
@@ -17,7 +17,11 @@ mod nozzle;
 mod table;
 
 fn main(rt: LibcRuntime) -> Result<(), AnyError> {
-    rt.report(run(&rt))
+    if let Err(error) = run(&rt) {
+        eprintln!(rt, "tabulate: {error}")?;
+        return Err(error);
+    }
+    Ok(())
 }
 
 fn run(rt: &LibcRuntime) -> Result<(), AnyError> {
