@@ -6,7 +6,7 @@ use mathlib.Core.Bool.{Bool, true, false}
 use native.Mathlib.Decide.{decLt}
 use native.Mathlib.Omega.{arith}
 use lib.IntN.{pos}
-use Rattle.engine.specs.Fraction.{Fraction, whole, _+ᶠ_, _≤ᶠ_, leᶠ}
+use Rattle.engine.specs.Fraction.{Fraction, whole, _+ᶠ_, _≤ᶠ_, _≈ᶠ_, leᶠ}
 use Rattle.engine.specs.Coordinates.{Within}
 use Rattle.engine.specs.Pieces.{piecewise}
 use Rattle.engine.specs.declared.knot.Knot.{Knot}
@@ -14,6 +14,7 @@ use Rattle.engine.proofs.Orders.{≤ᶠ-refl, ≤ᶠ-trans, leᶠ-true, leᶠ-
 use Rattle.engine.proofs.Lags.{lag, lag-anti, lag-mono, rise-out}
 use Rattle.engine.proofs.Piecewise.{Pieces, piecewise-mono, piecewise-both, piecewise-map}
 
+-- `from i` is the exact value from knot i on
 module _ (k : ℕ → Knot) (top S : ℕ) (from : ℕ → Fraction → Fraction) where
   abbrev pub X : ℕ → Fraction
   X i = whole (k i .x)
@@ -26,8 +27,10 @@ module _ (k : ℕ → Knot) (top S : ℕ) (from : ℕ → Fraction → Fraction)
     pub x-rises : (i : ℕ) → i < top → X i ≤ᶠ X (suc i)
     pub y-rises : (i : ℕ) → i < top → Y i ≤ᶠ Y (suc i)
     pub at-top : (q : Fraction) → from top q ≡ Y top
-    pub start : (i : ℕ) → i < top → (from i (X i) ≤ᶠ Y i) × (Y i ≤ᶠ from i (X i))
-    pub end : (i : ℕ) → i < top → (from i (X (suc i)) ≤ᶠ Y (suc i)) × (Y (suc i) ≤ᶠ from i (X (suc i)))
+    -- the piece has the values of its two knots
+    pub start : (i : ℕ) → i < top → from i (X i) ≈ᶠ Y i
+    pub end : (i : ℕ) → i < top → from i (X (suc i)) ≈ᶠ Y (suc i)
+    -- it does not fall, and rises by at most S for each unit
     pub grows : (i : ℕ) (p q : Fraction) → i < top → X i ≤ᶠ p → p ≤ᶠ q → q ≤ᶠ X (suc i) → from i p ≤ᶠ from i q
     pub slow : (i : ℕ) (p q : Fraction) → i < top → X i ≤ᶠ p → p ≤ᶠ q → q ≤ᶠ X (suc i)
         → lag S p (from i p) ≤ᶠ lag S q (from i q)
@@ -36,6 +39,7 @@ module _ (k : ℕ → Knot) (top S : ℕ) (from : ℕ → Fraction → Fraction)
   last : (i : ℕ) → i ≤ top → (i ≡ top) ⊎ (i < top)
   last i l = elim (decLt i top) [ yes h ↦ inr h | no n ↦ inl (omega arith) ]
 
+  -- knot i is at or below q
   abbrev under : ℕ → Fraction → Bool
   under i q = leᶠ (X i) q
 
@@ -43,6 +47,7 @@ module _ (k : ℕ → Knot) (top S : ℕ) (from : ℕ → Fraction → Fraction)
   stays i p q e h = leᶠ-holds (X i) q (≤ᶠ-trans (leᶠ-true (X i) p e) h)
 
   module _ (j : Joined) where
+    -- between its knots a piece keeps between their values
     pub low : (i : ℕ) (q : Fraction) → i ≤ top → X i ≤ᶠ q → (i < top → q ≤ᶠ X (suc i)) → Y i ≤ᶠ from i q
     low i q l h r =
         elim (last i l) [

@@ -10,7 +10,7 @@ use lib.Signed.{_≤ℤ_}
 use Rattle.std.proofs.shelf.Tests.{cases-lt}
 use Rattle.engine.specs.Fraction.{Fraction, whole, _+ᶠ_, _≤ᶠ_}
 use Rattle.engine.specs.Coordinates.{Coordinate, Within, holdᶠ, lowest, highest}
-use Rattle.engine.specs.Curves.{Meaning, Rules, bare, offset, clamp, chain}
+use Rattle.engine.specs.Curves.{Meaning, Rules, bare, plus, offset, clamp, chain}
 use Rattle.engine.specs.Theorems.{Layers-keep}
 use Rattle.engine.proofs.Orders.{≤ᶠ-trans, ≤ᶠ-total}
 use Rattle.engine.proofs.Sums.{+ᶠ-up, +ᶠ-both, +ᶠ-moved, steps, whole-sum, apart, whole-within}
@@ -29,8 +29,21 @@ bare-rules = record {
   value-high = λ x c. +ᶠ-up (whole x) 0;
 }
 
-pub clamp-rules : (a b : ℤ) (m : Meaning) → Coordinate a → Coordinate b → a ≤ℤ b → Rules m → Rules (clamp a b m)
-clamp-rules a b m ca cb band k = record {
+-- ---- clamp and offset
+
+-- the rules but for the ranges: what a clamp needs of the curve below
+record Steady (m : Meaning) : Type 0 where
+  rise-fits : m .S ≤ 16383
+  radius-fits : m .R ≤ 16383
+  value-mono : (x y : ℤ) → Coordinate x → Coordinate y → x ≤ℤ y → m .V x ≤ℤ m .V y
+  exact-mono : (p q : Fraction) → Within p → Within q → p ≤ᶠ q → m .E p ≤ᶠ m .E q
+  exact-rise : (n : ℕ) (p q : Fraction) → Within p → Within q → p ≤ᶠ q → q ≤ᶠ p +ᶠ whole (pos n)
+      → m .E q ≤ᶠ m .E p +ᶠ whole (pos (m .S * n))
+  value-low : (x : ℤ) → Coordinate x → m .E (whole x) ≤ᶠ whole (m .V x) +ᶠ whole (pos (m .R))
+  value-high : (x : ℤ) → Coordinate x → whole (m .V x) ≤ᶠ m .E (whole x) +ᶠ whole (pos (m .R))
+
+held-rules : (a b : ℤ) (m : Meaning) → Coordinate a → Coordinate b → a ≤ℤ b → Steady m → Rules (clamp a b m)
+held-rules a b m ca cb band k = record {
   rise-fits = k .rise-fits;
   radius-fits = k .radius-fits;
   value-fits = λ x _. hold-fits a b band ca cb (m .V x);
@@ -46,46 +59,42 @@ clamp-rules a b m ca cb band k = record {
       (held-near a b band _ _ _ (k .value-high x c));
 }
 
-all : lowest ≤ℤ highest
-all = record { le = tt }
+pub clamp-rules : (a b : ℤ) (m : Meaning) → Coordinate a → Coordinate b → a ≤ℤ b → Rules m → Rules (clamp a b m)
+clamp-rules a b m ca cb band k =
+    held-rules a b m ca cb band
+    (record {
+      rise-fits = k .rise-fits;
+      radius-fits = k .radius-fits;
+      value-mono = k .value-mono;
+      exact-mono = k .exact-mono;
+      exact-rise = k .exact-rise;
+      value-low = k .value-low;
+      value-high = k .value-high;
+    })
 
-low-fits : Coordinate lowest
-low-fits = record { low = record { le = tt }; high = record { le = tt } }
-
-high-fits : Coordinate highest
-high-fits = record { low = record { le = tt }; high = record { le = tt } }
-
--- the curve below moved by c, before it is held
-moved-low : (c : ℤ) (m : Meaning) → Rules m → (x : ℤ) → Coordinate x
-    → m .E (whole x) +ᶠ whole c ≤ᶠ whole (m .V x +ℤ c) +ᶠ whole (pos (m .R))
-moved-low c m k x cx =
-    ≤ᶠ-trans (+ᶠ-moved c (m .R) _ _ (k .value-low x cx)) (+ᶠ-both (whole (pos (m .R))) (whole-sum (m .V x) c .1))
-
-moved-high : (c : ℤ) (m : Meaning) → Rules m → (x : ℤ) → Coordinate x
-    → whole (m .V x +ℤ c) ≤ᶠ m .E (whole x) +ᶠ whole c +ᶠ whole (pos (m .R))
-moved-high c m k x cx = ≤ᶠ-trans (whole-sum (m .V x) c .0) (+ᶠ-moved c (m .R) _ _ (k .value-high x cx))
-
-sum-mono : (a b c : ℤ) → a ≤ℤ b → (a +ℤ c) ≤ℤ (b +ℤ c)
-sum-mono a b c h = omega (arith, ints)
-
-pub offset-rules : (c : ℤ) (m : Meaning) → Rules m → Rules (offset c m)
-offset-rules c m k = record {
+-- a lawful curve plus c keeps all but the ranges
+plus-steady : (c : ℤ) (m : Meaning) → Rules m → Steady (plus c m)
+plus-steady c m k = record {
   rise-fits = k .rise-fits;
   radius-fits = k .radius-fits;
-  value-fits = λ x _. hold-fits lowest highest all low-fits high-fits (m .V x +ℤ c);
-  value-mono =
-      λ x y cx cy h. hold-mono lowest highest all _ _ (sum-mono (m .V x) (m .V y) c (k .value-mono x y cx cy h));
-  exact-fits = λ q _. held-within lowest highest all low-fits high-fits (m .E q +ᶠ whole c);
-  exact-mono = λ p q fp fq h. held-mono lowest highest all _ _ (+ᶠ-both (whole c) (k .exact-mono p q fp fq h));
-  exact-rise =
-      λ n p q fp fq h w. held-near lowest highest all _ _ _ (+ᶠ-moved c _ _ _ (k .exact-rise n p q fp fq h w));
+  value-mono = λ x y cx cy h. sum-mono (m .V x) (m .V y) (k .value-mono x y cx cy h);
+  exact-mono = λ p q fp fq h. +ᶠ-both (whole c) (k .exact-mono p q fp fq h);
+  exact-rise = λ n p q fp fq h w. +ᶠ-moved c _ _ _ (k .exact-rise n p q fp fq h w);
   value-low =
-      λ x cx. subst (λ v. holdᶠ lowest highest (m .E (whole x) +ᶠ whole c) ≤ᶠ v +ᶠ whole (pos (m .R)))
-      (hold-whole lowest highest (m .V x +ℤ c)) (held-near lowest highest all _ _ _ (moved-low c m k x cx));
-  value-high =
-      λ x cx. subst (λ v. v ≤ᶠ holdᶠ lowest highest (m .E (whole x) +ᶠ whole c) +ᶠ whole (pos (m .R)))
-      (hold-whole lowest highest (m .V x +ℤ c)) (held-near lowest highest all _ _ _ (moved-high c m k x cx));
+      λ x cx. ≤ᶠ-trans (+ᶠ-moved c (m .R) _ _ (k .value-low x cx))
+      (+ᶠ-both (whole (pos (m .R))) (whole-sum (m .V x) c .1));
+  value-high = λ x cx. ≤ᶠ-trans (whole-sum (m .V x) c .0) (+ᶠ-moved c (m .R) _ _ (k .value-high x cx));
 }
+  where
+    sum-mono : (a b : ℤ) → a ≤ℤ b → (a +ℤ c) ≤ℤ (b +ℤ c)
+    sum-mono a b h = omega (arith, ints)
+
+pub offset-rules : (c : ℤ) (m : Meaning) → Rules m → Rules (offset c m)
+offset-rules c m k =
+    held-rules lowest highest (plus c m) (record { low = record { le = tt }; high = record { le = tt } })
+    (record { low = record { le = tt }; high = record { le = tt } }) (record { le = tt }) (plus-steady c m k)
+
+-- ---- chain
 
 -- g carries what is at most n above p to what is at most S n above its exact value there
 carried : (g : Meaning) → Rules g → (n : ℕ) (p q : Fraction) → Within p → Within q → q ≤ᶠ p +ᶠ whole (pos n)

@@ -8,7 +8,7 @@ use lib.Dec.{eqb}
 use lib.IntN.{pos, _+ℤ_, +ℤ-idr}
 use borrow.Author.Differences.{ints, up, down}
 use borrow.Author.Tests.{eq-eqb, ne-eqb}
-use Rattle.engine.specs.Fraction.{Fraction, den, whole, _+ᶠ_, _-ᶠ_, _*ᶠ_, _/ᶠ_, _≤ᶠ_}
+use Rattle.engine.specs.Fraction.{Fraction, den, whole, _+ᶠ_, _-ᶠ_, _*ᶠ_, _/ᶠ_, _≤ᶠ_, _≈ᶠ_}
 use Rattle.engine.specs.Pieces.{Lawful, width, height, line-exact, line-from}
 use Rattle.engine.specs.declared.knot.Knot.{Knot}
 use Rattle.engine.proofs.Orders.{≤ᶠ-refl, ≤ᶠ-trans, whole-≤}
@@ -18,11 +18,12 @@ use Rattle.engine.proofs.Lags.{lag}
 use Rattle.engine.proofs.Places.{Place, lag-piece, x-is, y-is, x-order, wide, inside}
 use Rattle.engine.proofs.Joins.{Joined}
 
--- ---- arithmetic
+-- ---- the arithmetic, with each product by itself
 
 grow-go : (D h U d U′ d′ : ℕ) → U * d′ ≤ U′ * d → D * U * (1 * d′ * h) ≤ D * U′ * (1 * d * h)
 grow-go D h U d U′ d′ l = omega (arith, mul-le-mul-right (D * h) l)
 
+-- D × (Y - X) is at most S × h × (Y - X)
 tilt : (S D h X Y : ℕ) → D ≤ S * h → X ≤ Y → S * h * X + D * Y ≤ S * h * Y + D * X
 tilt S D h X Y k l = at (le-dest l)
   where
@@ -42,8 +43,8 @@ rise-is′ : (D h U d d′ : ℕ) → D * U * d * (d′ * (1 * d′ * h)) ≡ D 
 rise-is′ D h U d d′ = omega arith
 
 slow-go : (S D h U d U′ d′ : ℕ) → D ≤ S * h → U * d′ ≤ U′ * d
-    → S * U * (1 * d * h) * (d′ * (1 * d′ * h)) + D * U′ * d′ * (d * (1 * d * h)) ≤ S * U′ * (1 * d′ * h) *
-    (d * (1 * d * h)) + D * U * d * (d′ * (1 * d′ * h))
+    → S * U * (1 * d * h) * (d′ * (1 * d′ * h)) + D * U′ * d′ * (d * (1 * d * h))
+    ≤ S * U′ * (1 * d′ * h) * (d * (1 * d * h)) + D * U * d * (d′ * (1 * d′ * h))
 slow-go S D h U d U′ d′ k l =
     rw (way-is S h U d d′, way-is′ S h U′ d d′, rise-is D h U′ d d′, rise-is′ D h U d d′)
     (simp add-mul at (mul-le-mul-right (h * d * d′) (tilt S D h (U * d′) (U′ * d) k l)))
@@ -51,6 +52,7 @@ slow-go S D h U d U′ d′ k l =
 -- ---- one piece
 
 module _ (s : Knot) (h D : ℕ) (h-pos : 0 < h) where
+  -- what the piece adds to y at q, with U / d the way from its start
   abbrev climb : Fraction → Fraction
   climb q = (whole (pos D) *ᶠ (q -ᶠ whole (s .x))) /ᶠ h
 
@@ -63,6 +65,7 @@ module _ (s : Knot) (h D : ℕ) (h-pos : 0 < h) where
   below : (p q : Fraction) (t : Place (s .x) h p) (t′ : Place (s .x) h q) → p ≤ᶠ q → t .U * den q ≤ t′ .U * den p
   below p q t t′ k = omega (arith, Val-≤-out (t .value) (t′ .value) k)
 
+  -- the piece does not fall
   line-grows : (p q : Fraction) → Place (s .x) h p → Place (s .x) h q → p ≤ᶠ q
       → line-exact s h D p ≤ᶠ line-exact s h D q
   unfolding line-exact
@@ -71,6 +74,7 @@ module _ (s : Knot) (h D : ℕ) (h-pos : 0 < h) where
       (Is-≤ (W-pos (den p) (omega arith)) (W-pos (den q) (omega arith)) (climb-is p t) (climb-is q t′)
       (grow-go D h (t .U) (den p) (t′ .U) (den q) (below p q t t′ k)))
 
+  -- and rises by at most S for each unit
   line-slow : (S : ℕ) → D ≤ S * h → (p q : Fraction) → Place (s .x) h p → Place (s .x) h q → p ≤ᶠ q
       → lag S p (line-exact s h D p) ≤ᶠ lag S q (line-exact s h D q)
   unfolding line-exact
@@ -79,8 +83,9 @@ module _ (s : Knot) (h D : ℕ) (h-pos : 0 < h) where
       (1 * den q * h) (W-pos (den p) (omega arith)) (W-pos (den q) (omega arith)) (t .value) (t′ .value)
       (climb-is p t) (climb-is q t′) (slow-go S D h (t .U) (den p) (t′ .U) (den q) k (below p q t t′ l))
 
+  -- at its two ends it has the knots' values
   pub line-start : Place (s .x) h (whole (s .x))
-      → (line-exact s h D (whole (s .x)) ≤ᶠ whole (s .y)) × (whole (s .y) ≤ᶠ line-exact s h D (whole (s .x)))
+      → line-exact s h D (whole (s .x)) ≈ᶠ whole (s .y)
   unfolding line-exact
   line-start t =
       shift-whole (s .y) (s .y) 0 (sym (+ℤ-idr (s .y))) (climb-is (whole (s .x)) t) (W-pos 1 (omega arith))
@@ -90,7 +95,7 @@ module _ (s : Knot) (h D : ℕ) (h-pos : 0 < h) where
       zero-U = omega (arith, Val-≤-out (t .value) (val (whole (s .x))) (≤ᶠ-refl (whole (s .x))))
 
   line-end : (s′ : Knot) → s′ .x ≡ s .x +ℤ pos h → s′ .y ≡ s .y +ℤ pos D → Place (s .x) h (whole (s′ .x))
-      → (line-exact s h D (whole (s′ .x)) ≤ᶠ whole (s′ .y)) × (whole (s′ .y) ≤ᶠ line-exact s h D (whole (s′ .x)))
+      → line-exact s h D (whole (s′ .x)) ≈ᶠ whole (s′ .y)
   unfolding line-exact
   line-end s′ e e′ t =
       shift-whole (s .y) (s′ .y) D e′ (climb-is (whole (s′ .x)) t) (W-pos 1 (omega arith))
@@ -105,6 +110,7 @@ module _ (s : Knot) (h D : ℕ) (h-pos : 0 < h) where
 -- ---- the whole curve
 
 module _ (k : ℕ → Knot) (top : ℕ) (law : Lawful k top) where
+  -- from knot i on stands its piece, from the last on its y
   pub line-piece : (i : ℕ) (q : Fraction) → i < top
       → line-from k top i q ≡ line-exact (k i) (width k i) (height k i) q
   unfolding line-from
@@ -114,6 +120,7 @@ module _ (k : ℕ → Knot) (top : ℕ) (law : Lawful k top) where
   unfolding line-from
   line-top q = let e : eqb top top ≡ true = eq-eqb top top refl in rw e refl
 
+  -- a rise S that no piece passes
   module _ (S : ℕ) (gentle : (i : ℕ) → i < top → height k i ≤ S * width k i) where
     pub line-joined : Joined k top S (line-from k top)
     line-joined = record {
@@ -121,12 +128,11 @@ module _ (k : ℕ → Knot) (top : ℕ) (law : Lawful k top) where
       y-rises = λ i l. whole-≤ (k i .y) (k (suc i) .y) (law .y-rises i l);
       at-top = line-top;
       start =
-          λ i l. subst (λ v. (v ≤ᶠ whole (k i .y)) × (whole (k i .y) ≤ᶠ v)) (sym (line-piece i (whole (k i .x)) l))
+          λ i l. subst (λ v. v ≈ᶠ whole (k i .y)) (sym (line-piece i (whole (k i .x)) l))
           (line-start (k i) (width k i) (height k i) (wide k top law i l)
           (inside k top law i (whole (k i .x)) l (≤ᶠ-refl (whole (k i .x))) (x-order k top law i l)));
       end =
-          λ i l. subst (λ v. (v ≤ᶠ whole (k (suc i) .y)) × (whole (k (suc i) .y) ≤ᶠ v))
-          (sym (line-piece i (whole (k (suc i) .x)) l))
+          λ i l. subst (λ v. v ≈ᶠ whole (k (suc i) .y)) (sym (line-piece i (whole (k (suc i) .x)) l))
           (line-end (k i) (width k i) (height k i) (wide k top law i l) (k (suc i)) (x-is k top law i l)
           (y-is k top law i l)
           (inside k top law i (whole (k (suc i) .x)) l (x-order k top law i l) (≤ᶠ-refl (whole (k (suc i) .x)))));

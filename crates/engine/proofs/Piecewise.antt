@@ -13,7 +13,7 @@ use Rattle.engine.proofs.Orders.{by-test}
 module _ {Q A : Type 0} (_≼_ _◁_ : Q → Q → Type 0) (_⊑_ : A → A → Type 0) (below : ℕ → Q → Bool) (first : Q → A)
     (from : ℕ → Q → A) (x : ℕ → Q) (y : ℕ → A) (top : ℕ) where
   infix 5 _≼_ _◁_ _⊑_
-  -- what the pieces of a table keep
+  -- what the pieces keep
   pub record Pieces : Type 0 where
     pub before : (p q : Q) → p ≼ q → q ◁ x 0 → first p ⊑ first q
     pub before-high : (p : Q) → p ◁ x 0 → first p ⊑ y 0
@@ -38,6 +38,7 @@ module _ {Q A : Type 0} (_≼_ _◁_ : Q → Q → Type 0) (_⊑_ : A → A → 
         (λ e. rw e
         (c .trans _ _ _ (piecewise-high i q (omega arith) (c .not-below (suc i) q e)) (c .knots (suc i) l)))
 
+    -- the whole curve does not fall
     pub piecewise-mono : (i : ℕ) (p q : Q) → i ≤ top → p ≼ q → (i < top → q ◁ x (suc i))
         → piecewise below first from i p ⊑ piecewise below first from i q
     unfolding piecewise
@@ -90,11 +91,11 @@ piecewise-at below first from q i e zero l n =
 piecewise-at below first from q i e (suc top) l n =
     elim (decLe i top) [
       | yes h ↦
-          (let e′ : below (suc top) q ≡ false = n (suc top) (omega arith) (omega arith) in rw e′
-          (piecewise-at below first from q i e top h (λ j a b. n j a (omega arith))))
+          (let e′ : below (suc top) q ≡ false = n (suc top) (omega arith) (omega arith) in
+          rw e′ (piecewise-at below first from q i e top h (λ j a b. n j a (omega arith))))
       | no m ↦
-          (let z : i ≡ suc top = omega arith in rw z
-          (let e′ : below (suc top) q ≡ true = subst (λ j. below j q ≡ true) z e in rw e′ refl))
+          (let z : i ≡ suc top = omega arith in
+          rw z (let e′ : below (suc top) q ≡ true = subst (λ j. below j q ≡ true) z e in rw e′ refl))
     ]
 
 -- or that no knot is
@@ -103,5 +104,5 @@ pub piecewise-none : {Q A : Type 0} (below : ℕ → Q → Bool) (first : Q → 
 unfolding piecewise
 piecewise-none below first from q zero n = let e : below 0 q ≡ false = n 0 (omega arith) in rw e refl
 piecewise-none below first from q (suc top) n =
-    let e : below (suc top) q ≡ false = n (suc top) (omega arith) in rw e
-    (piecewise-none below first from q top (λ j l. n j (omega arith)))
+    let e : below (suc top) q ≡ false = n (suc top) (omega arith) in
+    rw e (piecewise-none below first from q top (λ j l. n j (omega arith)))

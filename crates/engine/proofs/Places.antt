@@ -23,6 +23,7 @@ pub record Place (x : ℤ) (h : ℕ) (q : Fraction) : Type 0 where
   pub split : U + V ≡ h * den q
   pub value : Val q (up x * den q + U) (down x * den q) (den q)
 
+-- an argument between the ends of a piece has a place in it
 pub place : (x x′ : ℤ) (h : ℕ) (q : Fraction) → x′ ≡ x +ℤ pos h → whole x ≤ᶠ q → q ≤ᶠ whole x′ → Place x h q
 unfolding _-ᶠ_
 place x x′ h q e l r = record {
@@ -33,9 +34,6 @@ place x x′ h q e l r = record {
   value = record { same = omega (arith, ap (λ n. n * den q) (u .1)) };
 }
   where
-    d : ℕ
-    d = den q
-
     one : suc (suc (q .less) * 1 - 1) ≡ suc (q .less)
     one = omega arith
 
@@ -50,10 +48,11 @@ place x x′ h q e l r = record {
 
 -- S·q less the value of a piece, from its place and what it adds to y
 lag-is : (S xu xd yu yd d U W F : ℕ)
-    → (S * (xu * d + U) * W + (yd * W + 0) * d ≡ (S * xu + yd) * (d * W) + S * U * W) ×
-    (S * (xd * d) * W + (yu * W + F) * d ≡ (S * xd + yu) * (d * W) + F * d)
+    → (S * (xu * d + U) * W + (yd * W + 0) * d ≡ (S * xu + yd) * (d * W) + S * U * W)
+    × (S * (xd * d) * W + (yu * W + F) * d ≡ (S * xd + yu) * (d * W) + F * d)
 lag-is S xu xd yu yd d U W F = (omega arith, omega arith)
 
+-- within a piece the lag does not fall where what it adds to y rises slowly
 pub lag-piece : (S : ℕ) (x y : ℤ) (p q w w′ : Fraction) (U U′ F F′ W W′ : ℕ) → 0 < W → 0 < W′
     → Val p (up x * den p + U) (down x * den p) (den p) → Val q (up x * den q + U′) (down x * den q) (den q)
     → Is w F W → Is w′ F′ W′
@@ -69,12 +68,8 @@ lag-piece S x y p q w w′ U U′ F F′ W W′ k k′ i j v v′ h =
         → Val (lag S p (whole y +ᶠ w)) ((S * up x + down y) * (den p * W) + S * U * W)
         ((S * down x + up y) * (den p * W) + F * den p) (den p * W)
     one p w U F W i v =
-        rw (
-          ← lag-is S (up x) (down x) (up y) (down y) (den p) U W F .0,
-          ← lag-is S (up x) (down x) (up y) (down y)
-              (den p) U W F .1,
-        )
-        (Val-lag S i (Val-shift y (Is-Val v)))
+        let e = lag-is S (up x) (down x) (up y) (down y) (den p) U W F in
+        rw (← e .0, ← e .1) (Val-lag S i (Val-shift y (Is-Val v)))
 
 -- ---- neighbouring knots
 
@@ -83,6 +78,7 @@ pub way : (a b : ℤ) → a ≤ℤ b → b ≡ a +ℤ pos (natAbs (b -ℤ a))
 way a b h = omega (arith, ints)
 
 module _ (k : ℕ → Knot) (top : ℕ) (law : Lawful k top) where
+  -- a knot is its neighbour before, plus the width and the height of the piece between
   pub x-is : (i : ℕ) → i < top → k (suc i) .x ≡ k i .x +ℤ pos (width k i)
   unfolding width
   x-is i l = way (k i .x) (k (suc i) .x) (let h = law .x-rises i l in omega (arith, ints))
@@ -94,12 +90,10 @@ module _ (k : ℕ → Knot) (top : ℕ) (law : Lawful k top) where
   pub wide : (i : ℕ) → i < top → 0 < width k i
   wide i l = let h = law .x-rises i l in let e = x-is i l in omega (arith, ints)
 
-  pub narrow : (i : ℕ) → i < top → width k i ≤ 4096
-  narrow i l = let h = law .x-near i l in let e = x-is i l in omega (arith, ints)
-
   pub x-order : (i : ℕ) → i < top → whole (k i .x) ≤ᶠ whole (k (suc i) .x)
   x-order i l = let h = law .x-rises i l in whole-≤ (k i .x) (k (suc i) .x) (omega (arith, ints))
 
+  -- an argument between two neighbours has a place in their piece
   pub inside : (i : ℕ) (q : Fraction) → i < top → whole (k i .x) ≤ᶠ q → q ≤ᶠ whole (k (suc i) .x)
       → Place (k i .x) (width k i) q
   inside i q l a b = place (k i .x) (k (suc i) .x) (width k i) q (x-is i l) a b

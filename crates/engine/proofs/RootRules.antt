@@ -1,12 +1,13 @@
 -- The root curve keeps the rules.
 use Prim.Native.Nat.{ℕ, suc, _+_, _*_, _≤_, _<_}
 use mathlib.Core.Path.{_≡_, sym, subst, _∙_}
+use mathlib.Core.Bool.{Bool}
 use native.Mathlib.Decide.{decLe, decLt}
 use native.Mathlib.Omega.{arith}
 use lib.IntN.{ℤ, pos, negsuc, natAbs}
 use lib.Signed.{_≤ℤ_}
 use borrow.Author.Differences.{ints}
-use Rattle.engine.specs.Fraction.{Fraction, whole, _+ᶠ_, _≤ᶠ_, leᶠ}
+use Rattle.engine.specs.Fraction.{Fraction, whole, _≈ᶠ_, leᶠ}
 use Rattle.engine.specs.Coordinates.{Coordinate, hold}
 use Rattle.engine.specs.Curves.{Rules}
 use Rattle.engine.specs.Pieces.{Lawful, width, height, piecewise, line-exact, line-from, lineE}
@@ -23,14 +24,15 @@ use Rattle.engine.proofs.Roots.{squares, root-low, root-high, root-mono, root-
 
 -- ---- the entries as knots of straight pieces
 
-pub entry-mono : (i j : ℕ) → i ≤ j → entry i ≤ entry j
+entry-mono : (i j : ℕ) → i ≤ j → entry i ≤ entry j
 entry-mono i j h = root-mono (65536 * i) (65536 * j) (omega arith)
 
-pub entry-small : (i : ℕ) → i ≤ 1023 → entry i ≤ 8191
+entry-small : (i : ℕ) → i ≤ 1023 → entry i ≤ 8191
 entry-small i h =
     elim (decLe (entry i) 8191)
     [ yes l ↦ l | no m ↦ absurd (omega (arith, root-low (65536 * i), squares 8192 (entry i) (omega arith))) ]
 
+-- the square of entry i + 257 would pass 65536 × (i + 1)
 entry-step : (i : ℕ) → entry (suc i) ≤ entry i + 256
 entry-step i =
     elim (decLe (entry (suc i)) (entry i + 256)) [
@@ -59,49 +61,58 @@ joined = line-joined rootKnot 1023 law 256 gentle
 
 -- ---- the exact value at a whole number is the entry there
 
-abbrev Same : Fraction → Fraction → Type 0
-Same p q = (p ≤ᶠ q) × (q ≤ᶠ p)
+-- knot i is at or below q
+abbrev below : ℕ → Fraction → Bool
+below i q = leᶠ (whole (rootKnot i .x)) q
 
+abbrev before : Fraction → Fraction
+before q = whole (rootKnot 0 .y)
+
+-- from the last entry on
 last : (x : ℤ) → pos 1023 ≤ℤ x → rootE (whole x) ≡ whole (pos (entry 1023))
 unfolding rootE lineE
 last x h =
-    piecewise-at (λ i q. leᶠ (whole (rootKnot i .x)) q) (λ q. whole (rootKnot 0 .y)) (line-from rootKnot 1023)
-    (whole x) 1023 (same-test (pos 1023) x ∙ sym (omega (arith, ints))) 1023 (omega arith)
-    (λ j a b. absurd (omega arith)) ∙ line-top rootKnot 1023 law (whole x)
+    piecewise-at below before (line-from rootKnot 1023) (whole x) 1023
+    (same-test (pos 1023) x ∙ sym (omega (arith, ints))) 1023 (omega arith) (λ j a b. absurd (omega arith))
+    ∙ line-top rootKnot 1023 law (whole x)
 
+-- below the first
 first : (n : ℕ) → rootE (whole (negsuc n)) ≡ whole (pos (entry 0))
 unfolding rootE lineE
 first n =
-    piecewise-none (λ i q. leᶠ (whole (rootKnot i .x)) q) (λ q. whole (rootKnot 0 .y)) (line-from rootKnot 1023)
-    (whole (negsuc n)) 1023 (λ j l. same-test (pos j) (negsuc n))
+    piecewise-none below before (line-from rootKnot 1023) (whole (negsuc n)) 1023 (λ j l. same-test (pos j) (negsuc n))
 
-between : (n : ℕ) → n < 1023 → Same (rootE (whole (pos n))) (whole (pos (entry n)))
+-- at an entry before the last
+between : (n : ℕ) → n < 1023 → rootE (whole (pos n)) ≈ᶠ whole (pos (entry n))
 unfolding rootE lineE
 between n h =
-    let here : piecewise (λ i q. leᶠ (whole (rootKnot i .x)) q) (λ q. whole (rootKnot 0 .y)) (line-from rootKnot 1023)
-    1023 (whole (pos n)) ≡ line-exact (rootKnot n) (width rootKnot n) (height rootKnot n) (whole (pos n)) =
-    piecewise-at (λ i q. leᶠ (whole (rootKnot i .x)) q) (λ q. whole (rootKnot 0 .y)) (line-from rootKnot 1023)
-    (whole (pos n)) n (same-test (pos n) (pos n) ∙ sym (omega (arith, ints))) 1023 (omega arith)
-    (λ j a b. same-test (pos j) (pos n) ∙ sym (omega (arith, ints)))
-    ∙ line-piece rootKnot 1023 law n (whole (pos n)) h in
-    subst (λ e. Same e (whole (pos (entry n)))) (sym here)
+    subst (λ e. e ≈ᶠ whole (pos (entry n))) (sym here)
     (line-start (rootKnot n) (width rootKnot n) (height rootKnot n) (wide rootKnot 1023 law n h)
     (inside rootKnot 1023 law n (whole (pos n)) h (≤ᶠ-refl (whole (pos n))) (x-order rootKnot 1023 law n h)))
+  where
+    here : piecewise below before (line-from rootKnot 1023) 1023 (whole (pos n))
+        ≡ line-exact (rootKnot n) (width rootKnot n) (height rootKnot n) (whole (pos n))
+    here =
+        piecewise-at below before (line-from rootKnot 1023) (whole (pos n)) n
+        (same-test (pos n) (pos n) ∙ sym (omega (arith, ints))) 1023 (omega arith)
+        (λ j a b. same-test (pos j) (pos n) ∙ sym (omega (arith, ints)))
+        ∙ line-piece rootKnot 1023 law n (whole (pos n)) h
 
-equal : {p q : Fraction} → p ≡ q → Same p q
-equal {p} {q} e = subst (λ r. Same p r) e (≤ᶠ-refl p, ≤ᶠ-refl p)
+equal : {p q : Fraction} → p ≡ q → p ≈ᶠ q
+equal {p} {q} e = subst (λ r. p ≈ᶠ r) e (≤ᶠ-refl p, ≤ᶠ-refl p)
 
+-- x held to 0..1023
 slot-inside : (n : ℕ) → n < 1023 → natAbs (hold (pos 0) (pos 1023) (pos n)) ≡ n
 slot-inside n h = grind (arith, ints)
 
 slot-last : (n : ℕ) → 1023 ≤ n → natAbs (hold (pos 0) (pos 1023) (pos n)) ≡ 1023
 slot-last n h = grind (arith, ints)
 
-at-whole : (x : ℤ) → Same (rootE (whole x)) (whole (rootV x))
+at-whole : (x : ℤ) → rootE (whole x) ≈ᶠ whole (rootV x)
 at-whole (negsuc n) = equal (first n)
 at-whole (pos n) = elim (decLt n 1023) [
-  | yes h ↦ subst (λ i. Same (rootE (whole (pos n))) (whole (pos (entry i)))) (sym (slot-inside n h)) (between n h)
-  | no m ↦ subst (λ i. Same (rootE (whole (pos n))) (whole (pos (entry i)))) (sym (slot-last n (omega arith)))
+  | yes h ↦ subst (λ i. rootE (whole (pos n)) ≈ᶠ whole (pos (entry i))) (sym (slot-inside n h)) (between n h)
+  | no m ↦ subst (λ i. rootE (whole (pos n)) ≈ᶠ whole (pos (entry i))) (sym (slot-last n (omega arith)))
       (equal (last (pos n) (omega (arith, ints))))
 ]
 

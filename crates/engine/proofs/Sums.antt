@@ -5,7 +5,7 @@ use native.Mathlib.Nat.{mul-le-mul-right, add-mul}
 use native.Mathlib.Omega.{arith}
 use lib.IntN.{ℤ, pos, _+ℤ_}
 use borrow.Author.Differences.{ints, up, down}
-use Rattle.engine.specs.Fraction.{Fraction, den, whole, _+ᶠ_, _≤ᶠ_}
+use Rattle.engine.specs.Fraction.{Fraction, den, whole, _+ᶠ_, _≤ᶠ_, _≈ᶠ_}
 use Rattle.engine.specs.Coordinates.{Coordinate, Within, lowest, highest}
 use Rattle.engine.proofs.Orders.{≤ᶠ-out, ≤ᶠ-trans, whole-≤}
 use Rattle.engine.proofs.Terms.{Is, Is-Val, Val, val, Val-+, Val-same, Val-whole, Val-≤, Val-shift, shifted}
@@ -90,7 +90,7 @@ pub steps : (m n : ℕ) (p q r : Fraction) → p ≤ᶠ q +ᶠ whole (pos m) →
 steps m n p q r h k = ≤ᶠ-trans h (≤ᶠ-trans (+ᶠ-both (whole (pos m)) k) (+ᶠ-twice r m n))
 
 -- x + c as a fraction
-pub whole-sum : (x c : ℤ) → (whole (x +ℤ c) ≤ᶠ whole x +ᶠ whole c) × (whole x +ᶠ whole c ≤ᶠ whole (x +ℤ c))
+pub whole-sum : (x c : ℤ) → whole (x +ℤ c) ≈ᶠ whole x +ᶠ whole c
 whole-sum x c = (
   Val-≤ (omega arith) (omega arith) (Val-whole (x +ℤ c)) (Val-move c (Val-whole x)) (omega (arith, parts)),
   Val-≤ (omega arith) (omega arith) (Val-move c (Val-whole x)) (Val-whole (x +ℤ c)) (omega (arith, parts)),
@@ -101,7 +101,7 @@ whole-sum x c = (
 
 -- y plus a quotient that is the whole number n
 pub shift-whole : (y y′ : ℤ) (n : ℕ) {w : Fraction} {F W : ℕ} → y′ ≡ y +ℤ pos n → Is w F W → 0 < W → F ≡ n * W
-    → (whole y +ᶠ w ≤ᶠ whole y′) × (whole y′ ≤ᶠ whole y +ᶠ w)
+    → whole y +ᶠ w ≈ᶠ whole y′
 shift-whole y y′ n {w} {F} {W} e i k f = (
   Val-≤ k (omega arith) (Val-shift y (Is-Val i)) (Val-whole y′) (omega (arith, f, ap (λ m. m * W) moved)),
   Val-≤ (omega arith) k (Val-whole y′) (Val-shift y (Is-Val i)) (omega (arith, f, ap (λ m. m * W) moved)),

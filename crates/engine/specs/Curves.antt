@@ -47,11 +47,14 @@ abbrev pub chain : Meaning → Meaning → Meaning
 chain g f =
     meaning (λ x. g .V (f .V x)) (λ q. g .E (f .E q)) (min (g .S * f .S) 16383) (min (g .R + g .S * f .R) 16383)
 
--- the curve below moved by c, held to the coordinates
-abbrev pub offset : ℤ → Meaning → Meaning
-offset c m =
-    meaning (λ x. hold lowest highest (m .V x +ℤ c)) (λ q. holdᶠ lowest highest (m .E q +ᶠ whole c)) (m .S) (m .R)
-
 -- the curve below held to the band a..b
 abbrev pub clamp : ℤ → ℤ → Meaning → Meaning
 clamp a b m = meaning (λ x. hold a b (m .V x)) (λ q. holdᶠ a b (m .E q)) (m .S) (m .R)
+
+-- the curve below plus c
+abbrev pub plus : ℤ → Meaning → Meaning
+plus c m = meaning (λ x. m .V x +ℤ c) (λ q. m .E q +ᶠ whole c) (m .S) (m .R)
+
+-- the same held to the coordinates
+abbrev pub offset : ℤ → Meaning → Meaning
+offset c m = clamp lowest highest (plus c m)
