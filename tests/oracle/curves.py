@@ -1,9 +1,10 @@
-"""The rules of docs/curves.md once more, in exact integers and fractions and by other methods than the library's.
+"""The rules of docs/curves.md once more, in exact integers and fractions.
 
+Where the library computes, this looks: rounding walks to the whole number that its words name, the entries of root are
+counted up one by one, and the rules are tried out over all coordinates. The layers are the formulas of the rules.
 Each curve has V (whole value at a coordinate), E (exact value at a fraction), S (rise) and R (radius).
 """
 from fractions import Fraction
-from math import floor
 
 LOWEST, HIGHEST = -8192, 8191
 FURTHEST = 16383
@@ -11,22 +12,32 @@ FURTHEST = 16383
 
 def hold(v, a, b):
     """v held to a..b."""
-    return max(a, min(b, v))
+    return a if v < a else b if v > b else v
 
 
 def down(v):
     """The greatest whole number not above v."""
-    return floor(v)
+    n = int(v)
+    while n > v:
+        n -= 1
+    while n + 1 <= v:
+        n += 1
+    return n
 
 
 def up(v):
     """The least whole number not below v."""
-    return -floor(-Fraction(v))
+    n = int(v)
+    while n < v:
+        n += 1
+    while n - 1 >= v:
+        n -= 1
+    return n
 
 
 def nearest(v):
     """The greatest whole number not above v + 1/2."""
-    return floor(Fraction(v) + Fraction(1, 2))
+    return down(v + Fraction(1, 2))
 
 
 def is_coordinate(x):
@@ -48,6 +59,13 @@ class Bare:
 
     def E(self, q):
         return q
+
+
+class Loose(Bare):
+    """The bare curve, told with a radius that is wider than it need be."""
+
+    def __init__(self, radius):
+        self.R = hold(radius, 0, FURTHEST)
 
 
 def root_entries():
@@ -118,8 +136,8 @@ def value(curve, x):
     return curve.V(hold(x, LOWEST, HIGHEST))
 
 
-def breaches(curve, step=1, spread=7):
-    """Where the curve breaks a rule, tried at every step-th coordinate and at fractions between."""
+def breaches(curve):
+    """Where the curve breaks a rule, tried at every coordinate and at sevenths between."""
     found = []
 
     def rule(kept, what):
@@ -127,19 +145,19 @@ def breaches(curve, step=1, spread=7):
             found.append(what)
 
     rule(0 <= curve.S <= FURTHEST and 0 <= curve.R <= FURTHEST, "rise or radius out of range")
-    last_v = last_q = last_e = None
-    for x in range(LOWEST, HIGHEST + 1, step):
-        v = curve.V(x)
+    exact = []
+    for x in range(LOWEST, HIGHEST + 1):
+        v, e = curve.V(x), curve.E(Fraction(x))
         rule(is_coordinate(v), f"value at {x} is no coordinate")
-        rule(last_v is None or last_v <= v, f"value falls at {x}")
-        rule(abs(v - curve.E(Fraction(x))) <= curve.R, f"value at {x} outside the radius")
-        last_v = v
-        for k in range(0, spread, 3):
-            q = min(x + Fraction(k, spread), Fraction(HIGHEST))
-            e = curve.E(q)
-            rule(LOWEST <= e <= HIGHEST, f"exact value at {q} out of range")
-            if last_q is not None:
-                rule(last_e <= e, f"exact value falls at {q}")
-                rule(e <= last_e + curve.S * up(q - last_q), f"exact value too steep at {q}")
-            last_q, last_e = q, e
+        rule(x == LOWEST or curve.V(x - 1) <= v, f"value falls at {x}")
+        rule(abs(v - e) <= curve.R, f"value at {x} outside the radius")
+        exact += [(x + q, curve.E(x + q)) for q in (Fraction(0), Fraction(2, 7), Fraction(6, 7)) if x + q <= HIGHEST]
+    for (p, e), (q, f) in zip(exact, exact[1:]):
+        rule(LOWEST <= f <= HIGHEST, f"exact value at {q} out of range")
+        rule(e <= f, f"exact value falls at {q}")
+    # three places a coordinate: from p, the next ones up to p + 1, and up to p + 50
+    for n, reach in ((1, 3), (50, 150)):
+        for i in range(0, len(exact) - reach, n):
+            (p, e), (q, f) = exact[i], exact[i + reach]
+            rule(q <= p + n and f <= e + curve.S * n, f"exact value rises too much from {p} to {q}")
     return found

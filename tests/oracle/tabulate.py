@@ -19,6 +19,12 @@ def tabulate(zero, trim, low, high, first, last, step):
     return rows, flow.S, flow.R
 
 
+def refusal(*settings):
+    """The number that refuses the settings, or 0."""
+    answer = tabulate(*settings)
+    return answer if isinstance(answer, int) else 0
+
+
 def written(text):
     """The output for the settings in the text, which have to be lawful."""
     rows, rise, radius = tabulate(*map(int, text.split()))

@@ -8,8 +8,7 @@ use native.Mathlib.Omega.{arith}
 use lib.IntN.{pos}
 use Rattle.engine.specs.Fraction.{Fraction, whole, _+ᶠ_, _≤ᶠ_, _≈ᶠ_, leᶠ}
 use Rattle.engine.specs.Coordinates.{Within}
-use Rattle.engine.specs.Pieces.{piecewise}
-use Rattle.engine.specs.declared.knot.Knot.{Knot}
+use Rattle.engine.specs.Pieces.{Knot, piecewise}
 use Rattle.engine.proofs.Orders.{≤ᶠ-refl, ≤ᶠ-trans, leᶠ-true, leᶠ-false, leᶠ-holds}
 use Rattle.engine.proofs.Lags.{lag, lag-anti, lag-mono, rise-out}
 use Rattle.engine.proofs.Piecewise.{Pieces, piecewise-mono, piecewise-both, piecewise-map}

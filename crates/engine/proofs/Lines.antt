@@ -9,13 +9,12 @@ use lib.IntN.{pos, _+ℤ_, +ℤ-idr}
 use borrow.Author.Differences.{ints, up, down}
 use borrow.Author.Tests.{eq-eqb, ne-eqb}
 use Rattle.engine.specs.Fraction.{Fraction, den, whole, _+ᶠ_, _-ᶠ_, _*ᶠ_, _/ᶠ_, _≤ᶠ_, _≈ᶠ_}
-use Rattle.engine.specs.Pieces.{Lawful, width, height, line-exact, line-from}
-use Rattle.engine.specs.declared.knot.Knot.{Knot}
+use Rattle.engine.specs.Pieces.{Knot, width, height, line-exact, line-from}
 use Rattle.engine.proofs.Orders.{≤ᶠ-refl, ≤ᶠ-trans, whole-≤}
 use Rattle.engine.proofs.Terms.{Is, Is-whole, Is-*, Is-/, Is-≤, val, Val-≤-out}
 use Rattle.engine.proofs.Sums.{+ᶠ-mono, shift-whole}
 use Rattle.engine.proofs.Lags.{lag}
-use Rattle.engine.proofs.Places.{Place, lag-piece, x-is, y-is, x-order, wide, inside}
+use Rattle.engine.proofs.Places.{Lawful, Place, lag-piece, x-is, y-is, x-order, wide, inside}
 use Rattle.engine.proofs.Joins.{Joined}
 
 -- ---- the arithmetic, with each product by itself

@@ -4,11 +4,11 @@ use mathlib.Core.Path.{_≡_, ap}
 use native.Mathlib.Nat.{mul-le-mul, le-dest}
 use native.Mathlib.Omega.{arith}
 use lib.IntN.{ℤ, pos, _+ℤ_, _-ℤ_, natAbs}
-use lib.Signed.{_≤ℤ_}
+use lib.Signed.{_≤ℤ_, _<ℤ_}
 use borrow.Author.Differences.{ints, up, down}
 use Rattle.engine.specs.Fraction.{Fraction, den, whole, _+ᶠ_, _-ᶠ_, _≤ᶠ_}
-use Rattle.engine.specs.Pieces.{Lawful, width, height}
-use Rattle.engine.specs.declared.knot.Knot.{Knot}
+use Rattle.engine.specs.Coordinates.{Coordinate}
+use Rattle.engine.specs.Pieces.{Knot, width, height}
 use Rattle.engine.proofs.Orders.{≤ᶠ-out, whole-≤}
 use Rattle.engine.proofs.Terms.{Is, Is-Val, Val, Val-shift, Val-≤, Val-≤-out, shifted}
 use Rattle.engine.proofs.Lags.{lag, Val-lag}
@@ -71,7 +71,14 @@ lag-piece S x y p q w w′ U U′ F F′ W W′ k k′ i j v v′ h =
         let e = lag-is S (up x) (down x) (up y) (down y) (den p) U W F in
         rw (← e .0, ← e .1) (Val-lag S i (Val-shift y (Is-Val v)))
 
--- ---- neighbouring knots
+-- ---- lawful knots
+
+-- Both parts of a knot are coordinates; each x is above the one before, and no y is below the one before.
+pub record Lawful (k : ℕ → Knot) (top : ℕ) : Type 0 where
+  pub x-fits : (i : ℕ) → i ≤ top → Coordinate (k i .x)
+  pub y-fits : (i : ℕ) → i ≤ top → Coordinate (k i .y)
+  pub x-rises : (i : ℕ) → i < top → k i .x <ℤ k (suc i) .x
+  pub y-rises : (i : ℕ) → i < top → k i .y ≤ℤ k (suc i) .y
 
 -- a number and its way to a greater one
 pub way : (a b : ℤ) → a ≤ℤ b → b ≡ a +ℤ pos (natAbs (b -ℤ a))

@@ -10,45 +10,43 @@ use borrow.Author.Differences.{ints}
 use Rattle.engine.specs.Fraction.{Fraction, whole, _≈ᶠ_, leᶠ}
 use Rattle.engine.specs.Coordinates.{Coordinate, hold}
 use Rattle.engine.specs.Curves.{Rules}
-use Rattle.engine.specs.Pieces.{Lawful, width, height, piecewise, line-exact, line-from, lineE}
-use Rattle.engine.specs.Root.{entry, rootV, rootE, rootKnot, rootCurve}
+use Rattle.engine.specs.Pieces.{width, height, piecewise, line-exact, line-from, lineE}
+use Rattle.engine.specs.Root.{rootEntry, rootV, rootE, rootKnot, rootCurve}
 use Rattle.engine.specs.Theorems.{Plain-curves}
 use Rattle.engine.proofs.Orders.{≤ᶠ-refl, ≤ᶠ-trans, same-test}
 use Rattle.engine.proofs.Sums.{+ᶠ-up, whole-within}
 use Rattle.engine.proofs.Layers.{bare-rules}
 use Rattle.engine.proofs.Piecewise.{piecewise-at, piecewise-none}
 use Rattle.engine.proofs.Joins.{Joined, joined-mono, joined-rise, joined-fits}
-use Rattle.engine.proofs.Places.{wide, inside, x-order}
+use Rattle.engine.proofs.Places.{Lawful, wide, inside, x-order}
 use Rattle.engine.proofs.Lines.{line-joined, line-start, line-piece, line-top}
 use Rattle.engine.proofs.Roots.{squares, root-low, root-high, root-mono, root-greatest}
 
 -- ---- the entries as knots of straight pieces
 
-entry-mono : (i j : ℕ) → i ≤ j → entry i ≤ entry j
+entry-mono : (i j : ℕ) → i ≤ j → rootEntry i ≤ rootEntry j
 entry-mono i j h = root-mono (65536 * i) (65536 * j) (omega arith)
 
-entry-small : (i : ℕ) → i ≤ 1023 → entry i ≤ 8191
+entry-small : (i : ℕ) → i ≤ 1023 → rootEntry i ≤ 8191
 entry-small i h =
-    elim (decLe (entry i) 8191)
-    [ yes l ↦ l | no m ↦ absurd (omega (arith, root-low (65536 * i), squares 8192 (entry i) (omega arith))) ]
+    elim (decLe (rootEntry i) 8191)
+    [ yes l ↦ l | no m ↦ absurd (omega (arith, root-low (65536 * i), squares 8192 (rootEntry i) (omega arith))) ]
 
 -- the square of entry i + 257 would pass 65536 × (i + 1)
-entry-step : (i : ℕ) → entry (suc i) ≤ entry i + 256
+entry-step : (i : ℕ) → rootEntry (suc i) ≤ rootEntry i + 256
 entry-step i =
-    elim (decLe (entry (suc i)) (entry i + 256)) [
+    elim (decLe (rootEntry (suc i)) (rootEntry i + 256)) [
       | yes l ↦ l
       | no m ↦ absurd
           (omega
-          (arith, root-low (65536 * suc i), root-high (65536 * i), squares (entry i + 257) (entry (suc i)) (omega arith)))
+          (arith, root-low (65536 * suc i), root-high (65536 * i), squares (rootEntry i + 257) (rootEntry (suc i)) (omega arith)))
     ]
 
 law : Lawful rootKnot 1023
 law = record {
-  some = omega arith;
   x-fits = λ i h. record { low = omega (arith, ints); high = omega (arith, ints) };
   y-fits = λ i h. let s = entry-small i h in record { low = omega (arith, ints); high = omega (arith, ints) };
   x-rises = λ i h. omega (arith, ints);
-  x-near = λ i h. omega (arith, ints);
   y-rises = λ i h. let s = entry-mono i (suc i) (omega arith) in omega (arith, ints);
 }
 
@@ -69,7 +67,7 @@ abbrev before : Fraction → Fraction
 before q = whole (rootKnot 0 .y)
 
 -- from the last entry on
-last : (x : ℤ) → pos 1023 ≤ℤ x → rootE (whole x) ≡ whole (pos (entry 1023))
+last : (x : ℤ) → pos 1023 ≤ℤ x → rootE (whole x) ≡ whole (pos (rootEntry 1023))
 unfolding rootE lineE
 last x h =
     piecewise-at below before (line-from rootKnot 1023) (whole x) 1023
@@ -77,16 +75,16 @@ last x h =
     ∙ line-top rootKnot 1023 law (whole x)
 
 -- below the first
-first : (n : ℕ) → rootE (whole (negsuc n)) ≡ whole (pos (entry 0))
+first : (n : ℕ) → rootE (whole (negsuc n)) ≡ whole (pos (rootEntry 0))
 unfolding rootE lineE
 first n =
     piecewise-none below before (line-from rootKnot 1023) (whole (negsuc n)) 1023 (λ j l. same-test (pos j) (negsuc n))
 
 -- at an entry before the last
-between : (n : ℕ) → n < 1023 → rootE (whole (pos n)) ≈ᶠ whole (pos (entry n))
+between : (n : ℕ) → n < 1023 → rootE (whole (pos n)) ≈ᶠ whole (pos (rootEntry n))
 unfolding rootE lineE
 between n h =
-    subst (λ e. e ≈ᶠ whole (pos (entry n))) (sym here)
+    subst (λ e. e ≈ᶠ whole (pos (rootEntry n))) (sym here)
     (line-start (rootKnot n) (width rootKnot n) (height rootKnot n) (wide rootKnot 1023 law n h)
     (inside rootKnot 1023 law n (whole (pos n)) h (≤ᶠ-refl (whole (pos n))) (x-order rootKnot 1023 law n h)))
   where
@@ -111,8 +109,8 @@ slot-last n h = grind (arith, ints)
 at-whole : (x : ℤ) → rootE (whole x) ≈ᶠ whole (rootV x)
 at-whole (negsuc n) = equal (first n)
 at-whole (pos n) = elim (decLt n 1023) [
-  | yes h ↦ subst (λ i. rootE (whole (pos n)) ≈ᶠ whole (pos (entry i))) (sym (slot-inside n h)) (between n h)
-  | no m ↦ subst (λ i. rootE (whole (pos n)) ≈ᶠ whole (pos (entry i))) (sym (slot-last n (omega arith)))
+  | yes h ↦ subst (λ i. rootE (whole (pos n)) ≈ᶠ whole (pos (rootEntry i))) (sym (slot-inside n h)) (between n h)
+  | no m ↦ subst (λ i. rootE (whole (pos n)) ≈ᶠ whole (pos (rootEntry i))) (sym (slot-last n (omega arith)))
       (equal (last (pos n) (omega (arith, ints))))
 ]
 
@@ -147,4 +145,4 @@ root-rules = record {
 }
 
 pub plain-curves : Plain-curves
-plain-curves = record { bare-keeps = bare-rules; root-keeps = root-rules; entries = λ i. root-greatest (65536 * i) }
+plain-curves = record { bare-keeps = bare-rules; root-keeps = root-rules; entries = λ i. root-greatest (65536 * i); rising = entry-mono }

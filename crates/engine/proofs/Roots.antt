@@ -10,7 +10,7 @@ use lib.Dec.{leb, ltb}
 use lib.ListN.{length, getD}
 use borrow.Author.Tests.{leb-true, leb-false, ltb-true}
 use Rattle.std.proofs.shelf.Tests.{and-parts}
-use Rattle.engine.specs.Root.{rootUpTo, root, entry, Greatest-root, Root-table}
+use Rattle.engine.specs.Root.{rootUpTo, root, rootEntry, Greatest-root, Root-table}
 use Rattle.engine.proofs.Orders.{by-test}
 
 -- ---- the root of a number
@@ -124,5 +124,5 @@ table-holds xs long t = record {
   rising = λ i j l h. carried-rising xs 0 0 t i j l (omega arith);
 }
 
-pub entry-is : (xs : List ℕ) → Root-table xs → (i : ℕ) → i < 1024 → getD xs i 0 ≡ entry i
+pub entry-is : (xs : List ℕ) → Root-table xs → (i : ℕ) → i < 1024 → getD xs i 0 ≡ rootEntry i
 entry-is xs r i h = root-one (65536 * i) (getD xs i 0) (r .roots i h)

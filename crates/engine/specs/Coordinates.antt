@@ -1,6 +1,7 @@
 -- Coordinates, the fractions between them, and holding.
 use mathlib.Core.Bool.{Bool, cond, _&&_}
-use lib.IntN.{ℤ, pos, negsuc}
+use Prim.Native.Nat.{ℕ}
+use lib.IntN.{ℤ, pos, negsuc, negℤ}
 use lib.Signed.{_≤ℤ_, leZ, ltZ}
 use Rattle.engine.specs.Fraction.{Fraction, whole, _≤ᶠ_, ltᶠ}
 
@@ -33,9 +34,16 @@ hold a b x = cond (ltZ x a) a (cond (ltZ b x) b x)
 abbrev pub holdᶠ : ℤ → ℤ → Fraction → Fraction
 holdᶠ a b q = cond (ltᶠ q (whole a)) (whole a) (cond (ltᶠ (whole b) q) (whole b) q)
 
--- the least and the greatest shift of an offset: the greatest distance of two coordinates, either way
+-- the greatest distance of two coordinates: no rise, radius or shift need pass it
+abbrev pub furthest : ℕ
+furthest = 16383
+
+-- a shift is held to -16383..16383
 abbrev pub least-shift : ℤ
-least-shift = negsuc 16382
+least-shift = negℤ (pos furthest)
 
 abbrev pub greatest-shift : ℤ
-greatest-shift = pos 16383
+greatest-shift = pos furthest
+
+abbrev pub held-shift : ℤ → ℤ
+held-shift c = hold least-shift greatest-shift c

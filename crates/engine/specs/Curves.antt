@@ -3,10 +3,10 @@ use Prim.Native.Nat.{ℕ, _+_, _*_, _≤_, min}
 use lib.IntN.{ℤ, pos, _+ℤ_}
 use lib.Signed.{_≤ℤ_}
 use Rattle.engine.specs.Fraction.{Fraction, whole, _+ᶠ_, _≤ᶠ_}
-use Rattle.engine.specs.Coordinates.{Coordinate, Within, lowest, highest, hold, holdᶠ}
+use Rattle.engine.specs.Coordinates.{Coordinate, Within, lowest, highest, hold, holdᶠ, furthest}
 
--- A curve means a whole value V at each coordinate, an exact value E at each fraction, a rise S (how steep E may be)
--- and a radius R (how far V may lie from E).
+-- A curve means a whole value V at each coordinate, an exact value E at each fraction, a rise S (E grows by at most
+-- S × n over a width of n, for whole n) and a radius R (V lies within R of E).
 pub record Meaning : Type 0 where
   pub V : ℤ → ℤ
   pub E : Fraction → Fraction
@@ -20,8 +20,8 @@ meaning v e s r = record { V = v; E = e; S = s; R = r }
 -- The rules that every maker of a curve owes.
 pub record Rules (m : Meaning) : Type 0 where
   -- the rise and the radius are whole numbers from 0 to 16383
-  pub rise-fits : m .S ≤ 16383
-  pub radius-fits : m .R ≤ 16383
+  pub rise-fits : m .S ≤ furthest
+  pub radius-fits : m .R ≤ furthest
   -- the value is a coordinate, and does not fall
   pub value-fits : (x : ℤ) → Coordinate x → Coordinate (m .V x)
   pub value-mono : (x x′ : ℤ) → Coordinate x → Coordinate x′ → x ≤ℤ x′ → m .V x ≤ℤ m .V x′
@@ -45,7 +45,7 @@ bare = meaning (λ x. x) (λ q. q) 1 0
 -- g after f: the value of f is the argument of g
 abbrev pub chain : Meaning → Meaning → Meaning
 chain g f =
-    meaning (λ x. g .V (f .V x)) (λ q. g .E (f .E q)) (min (g .S * f .S) 16383) (min (g .R + g .S * f .R) 16383)
+    meaning (λ x. g .V (f .V x)) (λ q. g .E (f .E q)) (min (g .S * f .S) furthest) (min (g .R + g .S * f .R) furthest)
 
 -- the curve below held to the band a..b
 abbrev pub clamp : ℤ → ℤ → Meaning → Meaning

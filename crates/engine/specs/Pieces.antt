@@ -1,21 +1,14 @@
 -- Curves made of pieces between knots. The knots are given by index: `k i` for i from 0 to `top`.
-use Prim.Native.Nat.{ℕ, zero, suc, _<_, _≤_}
+use Prim.Native.Nat.{ℕ, zero, suc}
 use mathlib.Core.Bool.{Bool, cond}
 use lib.Dec.{eqb}
-use lib.IntN.{ℤ, pos, _+ℤ_, _-ℤ_, natAbs}
-use lib.Signed.{_≤ℤ_, _<ℤ_}
+use lib.IntN.{ℤ, pos, _-ℤ_, natAbs}
 use Rattle.engine.specs.Fraction.{Fraction, whole, _+ᶠ_, _-ᶠ_, _*ᶠ_, _/ᶠ_, leᶠ}
-use Rattle.engine.specs.Coordinates.{Coordinate}
-use Rattle.engine.specs.declared.knot.Knot.{Knot}
 
--- Both parts of a knot are coordinates; each x is above the one before by at most 4096, and no y is below the one before.
-pub record Lawful (k : ℕ → Knot) (top : ℕ) : Type 0 where
-  pub some : 0 < top
-  pub x-fits : (i : ℕ) → i ≤ top → Coordinate (k i .x)
-  pub y-fits : (i : ℕ) → i ≤ top → Coordinate (k i .y)
-  pub x-rises : (i : ℕ) → i < top → k i .x <ℤ k (suc i) .x
-  pub x-near : (i : ℕ) → i < top → k (suc i) .x ≤ℤ (k i .x +ℤ pos 4096)
-  pub y-rises : (i : ℕ) → i < top → k i .y ≤ℤ k (suc i) .y
+-- at x the curve has the value y
+pub record Knot : Type 0 where
+  pub x : ℤ
+  pub y : ℤ
 
 -- the width h and the height D of the piece from knot i to knot i + 1
 unfoldable pub width : (ℕ → Knot) → ℕ → ℕ

@@ -1,4 +1,4 @@
--- Why a call is turned away: the numbers, and the outcome of a call that may refuse.
+-- Why a call is turned away: the numbers, what a refusal tells, and the outcome of a call that may refuse.
 use Prim.Native.Nat.{ℕ}
 use mathlib.Core.Path.{_≡_}
 use Rattle.std.specs.declared.option.Option.{Option}
@@ -18,14 +18,26 @@ not-coordinate = 1
 abbrev pub out-of-limits : ℕ
 out-of-limits = 11
 
--- the number of each refusal
-abbrev pub number : Refusal → ℕ
-number NotCoordinate = not-coordinate
-number OutOfLimits = out-of-limits
+-- ---- what a refusal tells
 
--- ---- the outcome
+-- its number, and the index or the place that goes with it
+pub record Told : Type 0 where
+  pub number : ℕ
+  pub index : Option ℕ
+  pub place : Option ℕ
 
--- A call that may refuse either answers a value of which P holds, where no number is told, or refuses with that number.
-abbrev pub Outcome : {A : Type 0} → Option ℕ → (A → Type 0) → Result A Refusal → Type 0
-Outcome told P (Ok a) = (told ≡ None) × P a
-Outcome told P (Err e) = told ≡ Some (number e)
+-- a number with which nothing goes
+abbrev pub alone : ℕ → Told
+alone n = record { number = n; index = None; place = None }
+
+-- what each refusal tells
+abbrev pub told : Refusal → Told
+told NotCoordinate = alone not-coordinate
+told OutOfLimits = alone out-of-limits
+
+-- ---- the outcome of a call that may refuse
+
+-- Where a refusal is due, the call refuses and tells just that; where none is, it answers a value of which P holds.
+abbrev pub Outcome : {A E : Type 0} → (E → Told) → Option Told → (A → Type 0) → Result A E → Type 0
+Outcome tells due P (Ok a) = (due ≡ None) × P a
+Outcome tells due P (Err e) = due ≡ Some (tells e)

@@ -9,8 +9,7 @@ use lib.ListN.{length, getD}
 use Rattle.engine.specs.Fraction.{Fraction}
 use Rattle.engine.specs.Coordinates.{hold}
 use Rattle.engine.specs.Curves.{Meaning, meaning}
-use Rattle.engine.specs.Pieces.{lineE}
-use Rattle.engine.specs.declared.knot.Knot.{Knot}
+use Rattle.engine.specs.Pieces.{Knot, lineE}
 
 -- s is the greatest whole number whose square is at most n
 pub record Greatest-root (n s : ℕ) : Type 0 where
@@ -27,16 +26,16 @@ unfoldable pub root : ℕ → ℕ
 root n = rootUpTo n n
 
 -- entry i: the greatest whole number whose square is at most 65536 × i
-abbrev pub entry : ℕ → ℕ
-entry i = root (65536 * i)
+abbrev pub rootEntry : ℕ → ℕ
+rootEntry i = root (65536 * i)
 
 -- the value: the entry at x held to 0..1023
 abbrev pub rootV : ℤ → ℤ
-rootV x = pos (entry (natAbs (hold (pos 0) (pos 1023) x)))
+rootV x = pos (rootEntry (natAbs (hold (pos 0) (pos 1023) x)))
 
 -- the entries as knots
 abbrev pub rootKnot : ℕ → Knot
-rootKnot i = record { x = pos i; y = pos (entry i) }
+rootKnot i = record { x = pos i; y = pos (rootEntry i) }
 
 -- the exact value: the straight line between neighbouring entries, flat beyond
 unfoldable pub rootE : Fraction → Fraction

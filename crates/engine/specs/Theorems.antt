@@ -1,5 +1,5 @@
 -- What is proved of the definitions, as statements that contracts name.
-use Prim.Native.Nat.{ℕ, _*_, _<_}
+use Prim.Native.Nat.{ℕ, _*_, _≤_, _<_}
 use mathlib.Core.Path.{_≡_}
 use mathlib.Core.Logic.{_⊎_}
 use lib.IntN.{ℤ, pos, negsuc, _+ℤ_, _*ℤ_}
@@ -8,7 +8,7 @@ use Rattle.engine.specs.Fraction.{Fraction, whole, _÷_, _+ᶠ_, _-ᶠ_, _*ᶠ
 use Rattle.engine.specs.Fraction.{floorᶠ, ceilᶠ, roundᶠ, Greatest-not-above, Least-not-below}
 use Rattle.engine.specs.Coordinates.{Coordinate}
 use Rattle.engine.specs.Curves.{Meaning, Rules, bare, chain, offset, clamp}
-use Rattle.engine.specs.Root.{entry, rootV, rootCurve, Greatest-root}
+use Rattle.engine.specs.Root.{rootEntry, rootV, rootCurve, Greatest-root}
 
 -- fractions are ordered and computed with as the numbers that they stand for
 pub record Fraction-rules : Type 0 where
@@ -30,11 +30,12 @@ pub record Rounding-rules : Type 0 where
   pub up : (q : Fraction) → Least-not-below q (ceilᶠ q)
   pub nearest : (q : Fraction) → Greatest-not-above (q +ᶠ pos 1 ÷ 2) (roundᶠ q)
 
--- the plain curves keep the rules, and each entry of root is the root that it is called
+-- the plain curves keep the rules; each entry of root is the root that it is called, and no entry is below an earlier one
 pub record Plain-curves : Type 0 where
   pub bare-keeps : Rules bare
   pub root-keeps : Rules rootCurve
-  pub entries : (i : ℕ) → Greatest-root (65536 * i) (entry i)
+  pub entries : (i : ℕ) → Greatest-root (65536 * i) (rootEntry i)
+  pub rising : (i j : ℕ) → i ≤ j → rootEntry i ≤ rootEntry j
 
 -- every layer over lawful curves is a lawful curve
 pub record Layers-keep : Type 0 where

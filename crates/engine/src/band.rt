@@ -1,8 +1,7 @@
 //! Bands of coordinates.
 
-ghost use mathlib.Core.Path.{_≡_};
 ghost use lib.Signed.{_≤ℤ_};
-ghost use Rattle.engine.specs.Coordinates.{hold, lowest, highest};
+ghost use Rattle.engine.specs.Coordinates.{lowest, highest};
 
 mod calls;
 

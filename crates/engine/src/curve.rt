@@ -6,9 +6,10 @@ ghost use lib.IntN.{ℤ};
 ghost use Rattle.engine.specs.Fraction.{Fraction};
 ghost use Rattle.engine.specs.Coordinates.{hold, lowest, highest};
 ghost use Rattle.engine.specs.Curves.{bare, meaning, Rules};
-use super::coordinate::held;
+use crate::coordinate::held;
 
-/// A curve takes a reading to a value. It never refuses.
+/// A curve takes a reading to a value. Its questions never refuse, and as they only borrow the curve, it means the same
+/// before and after.
 pub trait Curve {
     // the whole value at a coordinate
     ghost V: { Self → ℤ → ℤ };
@@ -16,7 +17,7 @@ pub trait Curve {
     // the exact value at a fraction
     ghost E: { Self → Fraction → Fraction };
 
-    // the rise: over a width of n the exact value grows by at most the rise times n
+    // the rise: over any width of at most n, n a whole number, the exact value grows by at most the rise times n
     ghost S: { Self → ℕ };
 
     // the radius: the whole value lies at most this far from the exact value
@@ -25,7 +26,7 @@ pub trait Curve {
     // what every maker of a curve has shown
     law keeps: { (c : Self) → Rules (meaning (V c) (E c) (S c) (R c)) };
 
-    /// The value at x, held to the coordinates.
+    /// The whole value at x, where x is first held to the coordinates.
     fn value(&self, x: i32) -> i32
         ensures { λ r. ⌜ r ≡ V (now (self .entry)) (hold lowest highest x) ⌝ };
 
@@ -39,7 +40,7 @@ pub trait Curve {
 }
 
 /// The bare curve: every reading is its own value.
-#[derive(Clone, Copy)]
+#[derive(Clone, Copy, Debug)]
 pub struct Bare;
 
 pub impl Curve for Bare as BareCurve {

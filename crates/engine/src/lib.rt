@@ -5,7 +5,6 @@
 pub mod band;
 pub mod coordinate;
 pub mod curve;
-pub mod knot;
 pub mod layer;
 pub mod refusal;
 pub mod root;

@@ -4,9 +4,9 @@ ghost use mathlib.Core.Path.{_≡_};
 ghost use Prim.Native.Nat.{_<_};
 ghost use lib.IntN.{pos, natAbs};
 ghost use Rattle.engine.specs.Coordinates.{hold};
-ghost use Rattle.engine.specs.Root.{entry, rootCurve, Root-table};
+ghost use Rattle.engine.specs.Root.{rootEntry, rootCurve, Root-table};
 use self::entries::ROOTS;
-use super::curve::Curve;
+use crate::curve::Curve;
 
 mod entries;
 
@@ -20,7 +20,7 @@ fn roots() -> &'static [u16; 1024]
 // Entry i of the table.
 fn root_at(i: usize) -> u16
     requires { ⌜ i < 1024 ⌝ }
-    ensures { λ r. ⌜ r ≡ entry i ⌝ }
+    ensures { λ r. ⌜ r ≡ rootEntry i ⌝ }
 {
     roots()[i]
 }
@@ -34,7 +34,7 @@ fn slot(x: i32) -> usize
 }
 
 /// The root curve: at x from 0 to 1023 the greatest whole number whose square is at most 65536 x, flat beyond.
-#[derive(Clone, Copy)]
+#[derive(Clone, Copy, Debug)]
 pub struct Root;
 
 pub impl Curve for Root as RootCurve {

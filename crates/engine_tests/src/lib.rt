@@ -1,7 +1,12 @@
 //! Tests of the engine on worked figures. `tests/oracle/` has the same figures.
 
 #[cfg(test)]
+mod loose;
+
+#[cfg(test)]
 mod tests {
+    use super::loose::Loose;
+    use super::loose::LooseCurve;
     use engine::band::Band;
     use engine::coordinate::is_coordinate;
     use engine::curve::Bare;
@@ -69,6 +74,17 @@ mod tests {
         check_eq(twice.value(2), 4870)?;
         check_eq(twice.value(16), 8187)?;
         check_eq((twice.rise(), twice.radius()), (16383, 0))
+    }
+
+    // The inner radius counts as often as the outer curve rises.
+    #[test]
+    fn a_chain_tells_its_radius() -> Result<(), Fail> {
+        check_eq(Chain::new(Root, Loose::new(1)).radius(), 256)?;
+        check_eq(Chain::new(Loose::new(7), Loose::new(5)).radius(), 12)?;
+        check_eq(Chain::new(Root, Loose::new(63)).radius(), 16128)?;
+        check_eq(Chain::new(Root, Loose::new(64)).radius(), 16383)?;
+        check_eq(Offset::new(Loose::new(9), 3).radius(), 9)?;
+        check_eq(Clamp::new(Loose::new(9), Band::all()).radius(), 9)
     }
 
     // A shift past 16383 already takes every value to the end.

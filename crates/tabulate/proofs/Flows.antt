@@ -1,77 +1,110 @@
--- The flow curve of a nozzle row keeps the rules, and its table keeps the law.
-use Prim.Native.Nat.{ℕ, _≤_, _<_}
-use mathlib.Core.Path.{_≡_, sym, ap, subst, _∙_}
+-- The flow of a nozzle row: its curve keeps the rules, and its table keeps the law.
+use Prim.Native.Nat.{ℕ}
+use mathlib.Core.Path.{_≡_, ap, subst, subst₃, _∙_}
+use native.Mathlib.Omega.{arith}
 use lib.IntN.{ℤ, pos, natAbs}
 use lib.Signed.{_≤ℤ_}
-use native.Mathlib.Omega.{arith}
 use borrow.Author.Differences.{ints}
+use Rattle.std.specs.declared.option.Option.{Option}
+use Rattle.std.specs.declared.option.Option.the-variants.{Some, None}
+use Rattle.std.specs.declared.result.Result.{Result}
+use Rattle.std.specs.declared.result.Result.the-variants.{Ok, Err}
+use Rattle.engine.specs.Bands.{IsBand, bandRefusal}
 use Rattle.engine.specs.Coordinates.{Coordinate}
-use Rattle.engine.specs.Curves.{Meaning, Rules, bare, chain, offset, clamp}
+use Rattle.engine.specs.Curves.{Meaning, Rules, bare}
+use Rattle.engine.specs.Refusals.{Told, Outcome, told}
 use Rattle.engine.specs.Root.{rootCurve}
 use Rattle.engine.specs.declared.band.Band.{Band}
+use Rattle.engine.specs.declared.refusal.Refusal.{Refusal}
 use Rattle.engine.proofs.Holds.{band-ends, hold-low, hold-high}
 use Rattle.engine.proofs.Layers.{bare-rules, chain-rules, offset-rules, clamp-rules}
 use Rattle.engine.proofs.RootRules.{root-rules}
-use Rattle.tabulate.specs.Tables.{Tabulates}
-use Rattle.tabulate.specs.Flow.{flowCurve, held-shift, Planned}
-use Rattle.tabulate.specs.Answers.{Flow-law}
+use Rattle.tabulate.specs.Flow.{FlowCurve, Flow-law, Flow-table, Piled, flowCurve, flowOf, flowRow, orElse, pile, settingsRefusal}
+use Rattle.tabulate.specs.Tables.{Faithful, IsTable, stepRefusal}
 use Rattle.tabulate.specs.declared.nozzle.Settings.{Settings}
-use Rattle.tabulate.specs.declared.nozzle.Plan.{Plan}
+use Rattle.tabulate.specs.declared.table.Row.{Row}
 use Rattle.tabulate.specs.declared.table.Table.{Table}
-use Rattle.tabulate.proofs.Laws.{faithful, each-value}
+use Rattle.tabulate.proofs.Laws.{each-row, faithful}
 
--- the pile of layers, by its numbers
-unfoldable pub pile : (low high trim zero : ℤ) → Meaning
-pile low high trim zero = clamp low high (offset trim (chain rootCurve (offset zero bare)))
+-- ---- refusals
 
-pub same-pile : {a a′ b b′ c c′ d d′ : ℤ} → a ≡ a′ → b ≡ b′ → c ≡ c′ → d ≡ d′ → pile a b c d ≡ pile a′ b′ c′ d′
-same-pile p q r s = λ i. pile (p i) (q i) (r i) (s i)
+-- a refusal comes first, or a later one comes where there is none
+pub refused-first : {first : Option Told} {t : Told} (later : Option Told) → first ≡ Some t → orElse first later ≡ Some t
+refused-first later e = ap (λ o. orElse o later) e
 
--- the ends of a band that is made of a and b
-pub record Ends (a b : ℤ) : Type 0 where
-  pub first : Coordinate a
-  pub last : Coordinate b
-  pub order : a ≤ℤ b
+pub refused-later : {first later due : Option Told} → first ≡ None → later ≡ due → orElse first later ≡ due
+refused-later {first} {later} e d = ap (λ o. orElse o later) e ∙ d
 
-pub ends : (a b : ℤ) (r : Band) → r .lo ≡ a → r .hi ≡ b → Ends a b
-ends a b r p q =
-    subst (λ z. Ends z b) p
-    (subst (λ z. Ends (r .lo) z) q
-    (let e = band-ends (r .lo) (r .hi) (r .low) (r .order) (r .high) in
-    record { first = e .0; last = e .1; order = r .order }))
+-- ---- the table
 
--- the same table under equal names
-pub same-table : {m m′ : Meaning} {f f′ l l′ : ℤ} {s s′ : ℕ} (t : Table) → m ≡ m′ → f ≡ f′ → l ≡ l′ → s ≡ s′
-    → Tabulates m f l s t → Tabulates m′ f′ l′ s′ t
-same-table {m} {m′} {f} {f′} {l} {l′} {s} {s′} t a b c d h =
-    subst (λ z. Tabulates m′ f′ l′ z t) d
-    (subst (λ z. Tabulates m′ f′ z s t) c (subst (λ z. Tabulates m′ z l s t) b (subst (λ z. Tabulates z f l s t) a h)))
+pub table-is : (s : Settings) (limit span : Band) (c : FlowCurve) (t : Table FlowCurve) → IsBand (s .low) (s .high) limit
+    → IsBand (s .first) (s .last) span → Piled (s .zero) (s .trim) limit c → IsTable c span (s .step) t → Flow-table s t
+table-is s limit span c t l p q h = record {
+  zero-is = ap (λ c. c .below .below .inner .shift) (h .curve-is) ∙ q .zero-is;
+  trim-is = ap (λ c. c .below .shift) (h .curve-is) ∙ q .trim-is;
+  low-is = ap (λ c. c .band .lo) (h .curve-is) ∙ ap (λ b. b .lo) (q .limit-is) ∙ l .0;
+  high-is = ap (λ c. c .band .hi) (h .curve-is) ∙ ap (λ b. b .hi) (q .limit-is) ∙ l .1;
+  first-is = ap (λ b. b .lo) (h .span-is) ∙ p .0;
+  last-is = ap (λ b. b .hi) (h .span-is) ∙ p .1;
+  step-is = h .step-is;
+}
 
-pub flow-law : (s : Settings) (p : Plan) → Planned s p → (t : Table)
-    → Tabulates (flowCurve s) (s .first) (s .last) (natAbs (s .step)) t → Flow-law s t
-flow-law s p h t is = record {
-  faithful = faithful (flowCurve s) rules (s .first) (s .last) (natAbs (s .step)) (span .first) (span .last) (span .order) some t is;
-  not-below = λ i l. each-value (flowCurve s) rules (s .first) (s .last) (natAbs (s .step)) (span .first) (span .last) (span .order) some t is (λ v. s .low ≤ℤ v) low i l;
-  not-above = λ i l. each-value (flowCurve s) rules (s .first) (s .last) (natAbs (s .step)) (span .first) (span .last) (span .order) some t is (λ v. v ≤ℤ s .high) high i l;
+-- ---- the law
+
+-- the flow in the code keeps the rules
+flow-rules : (c : FlowCurve) → Rules (flowOf c)
+flow-rules c =
+    let b = c .band in
+    let e = band-ends (b .lo) (b .hi) (b .low) (b .order) (b .high) in
+    clamp-rules (b .lo) (b .hi) _ (e .0) (e .1) (b .order)
+    (offset-rules (c .below .shift) _
+    (chain-rules rootCurve _ root-rules (offset-rules (c .below .below .inner .shift) bare bare-rules)))
+
+pub flow-law : (s : Settings) (t : Table FlowCurve) → Flow-table s t → Flow-law s t
+flow-law s t h = record {
+  faithful = subst (λ E. Faithful E (m .S) (m .R) (s .first) (s .last) (natAbs (s .step)) (flowRow t)) exact-is law;
+  not-below = values (λ v. s .low ≤ℤ v) (λ x. subst (λ a. a ≤ℤ m .V x) (h .low-is) (hold-low _ _ (t .curve .band .order) _));
+  not-above = values (λ v. v ≤ℤ s .high) (λ x. subst (λ b. m .V x ≤ℤ b) (h .high-is) (hold-high _ _ (t .curve .band .order) _));
 }
   where
-    limit : Ends (s .low) (s .high)
-    limit = ends (s .low) (s .high) (p .limit) (h .limit-is .0) (h .limit-is .1)
+    m : Meaning
+    m = flowOf (t .curve)
 
-    span : Ends (s .first) (s .last)
-    span = ends (s .first) (s .last) (p .span) (h .span-is .0) (h .span-is .1)
+    exact-is : flowOf (t .curve) .E ≡ flowCurve s .E
+    exact-is = λ i. pile (h .low-is i) (h .high-is i) (h .trim-is i) (h .zero-is i) .E
 
-    some : 1 ≤ natAbs (s .step)
-    some = let e = h .step-is .same in let l = h .step-is .low in omega (arith, ints)
+    step-is : t .step ≡ natAbs (s .step)
+    step-is = let d = h .step-is in omega (arith, ints)
 
-    rules : Rules (flowCurve s)
-    rules =
-        clamp-rules (s .low) (s .high) _ (limit .first) (limit .last) (limit .order)
-        (offset-rules (held-shift (s .trim)) _
-        (chain-rules rootCurve _ root-rules (offset-rules (held-shift (s .zero)) bare bare-rules)))
+    ends : Coordinate (t .span .lo) × Coordinate (t .span .hi)
+    ends = band-ends (t .span .lo) (t .span .hi) (t .span .low) (t .span .order) (t .span .high)
 
-    low : (x : ℤ) → s .low ≤ℤ flowCurve s .V x
-    low x = hold-low (s .low) (s .high) (limit .order) _
+    -- by the table's own numbers
+    own : Faithful (m .E) (m .S) (m .R) (t .span .lo) (t .span .hi) (t .step) (flowRow t)
+    own =
+        faithful m (flow-rules (t .curve)) (t .span .lo) (t .span .hi) (t .step) (ends .0) (ends .1) (t .span .order)
+        (t .some)
 
-    high : (x : ℤ) → flowCurve s .V x ≤ℤ s .high
-    high x = hold-high (s .low) (s .high) (limit .order) _
+    law : Faithful (m .E) (m .S) (m .R) (s .first) (s .last) (natAbs (s .step)) (flowRow t)
+    law =
+        subst₃ (λ first last step. Faithful (m .E) (m .S) (m .R) first last step (flowRow t)) (h .first-is) (h .last-is)
+        step-is own
+
+    -- what holds of every value of the curve holds of every row's
+    values : (P : ℤ → Type 0) → ((x : ℤ) → P (m .V x)) → (i : ℕ) (r : Row) → flowRow t i ≡ Some r → P (r .value)
+    values P p i = each-row (m .V) (t .span .lo) (t .span .hi) (t .step) (λ r. P (r .value)) i (λ _. p _)
+
+-- ---- the answer
+
+-- from what the last step answers to what the call answers
+pub answer : (s : Settings) (limit span : Band) (c : FlowCurve) (r : Result (Table FlowCurve) Refusal)
+    → (bandRefusal (s .low) (s .high) ≡ None) × IsBand (s .low) (s .high) limit
+    → (bandRefusal (s .first) (s .last) ≡ None) × IsBand (s .first) (s .last) span → Piled (s .zero) (s .trim) limit c
+    → Outcome told (stepRefusal (s .step)) (IsTable c span (s .step)) r
+    → Outcome told (settingsRefusal s) (Flow-table s) r × Outcome told (settingsRefusal s) (Flow-law s) r
+answer s limit span c (Ok t) l p q h =
+    let none = refused-later (l .0) (refused-later (p .0) (h .0)) in
+    let is = table-is s limit span c t (l .1) (p .1) q (h .1) in
+    ((none, is), (none, flow-law s t is))
+answer s limit span c (Err e) l p q h =
+    let due = refused-later (l .0) (refused-later (p .0) h) in (due, due)

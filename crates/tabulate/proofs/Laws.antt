@@ -1,24 +1,26 @@
 -- A table of a lawful curve speaks for its exact curve.
 use Prim.Native.Nat.{ℕ, suc, _+_, _*_, _≤_, _<_}
-use mathlib.Core.Path.{_≡_, sym, ap, subst, subst₂, _∙_}
+use mathlib.Core.Path.{_≡_, refl, sym, subst}
+use mathlib.Core.Bool.{Bool, true, false, cond}
 use native.Mathlib.Omega.{arith}
+use lib.Dec.{ltb}
 use lib.IntN.{ℤ, pos, _+ℤ_}
-use lib.ListN.{length, getD}
 use lib.Signed.{_≤ℤ_}
 use borrow.Author.Differences.{ints}
-use Rattle.std.specs.Of.Vec.{vec-items}
+use borrow.Author.Tests.{ltb-true, lt-ltb}
+use Rattle.std.specs.declared.option.Option.{Option}
+use Rattle.std.specs.declared.option.Option.the-variants.{Some, None}
 use Rattle.engine.specs.Fraction.{whole, _+ᶠ_, _≤ᶠ_}
 use Rattle.engine.specs.Coordinates.{Coordinate}
 use Rattle.engine.specs.Curves.{Meaning, Rules}
 use Rattle.engine.proofs.Orders.{≤ᶠ-trans, whole-≤, whole-≤-out}
 use Rattle.engine.proofs.Sums.{steps, whole-sum, whole-within}
-use Rattle.tabulate.specs.Tables.{readingAt, rowCount, rowAt, Tabulates, Faithful, count, reading, value}
+use Rattle.tabulate.specs.Tables.{readingAt, rowCount, rowAt, Faithful}
 use Rattle.tabulate.specs.declared.table.Row.{Row}
-use Rattle.tabulate.specs.declared.table.Table.{Table}
-use Rattle.tabulate.proofs.Rows.{rows-length, rows-at, reading-inside, reading-there}
+use Rattle.tabulate.proofs.Rows.{reading-inside, reading-there}
 
 -- a curve that keeps the rules rises over n readings by at most its rise times n and twice its radius
-pub value-rise : (m : Meaning) → Rules m → (x : ℤ) (n : ℕ) → Coordinate x → Coordinate (x +ℤ pos n)
+value-rise : (m : Meaning) → Rules m → (x : ℤ) (n : ℕ) → Coordinate x → Coordinate (x +ℤ pos n)
     → m .V (x +ℤ pos n) ≤ℤ (m .V x +ℤ pos (m .S * n + 2 * m .R))
 value-rise m k x n cx cy =
     whole-≤-out _ _
@@ -38,59 +40,66 @@ value-rise m k x n cx cy =
         steps (m .R) (m .S * n + m .R) _ _ _ (k .value-high _ cy)
         (steps (m .S * n) (m .R) _ _ _ rise (k .value-low x cx))
 
--- past the end of the rows
-abbrev none : Row
-none = record { reading = pos 0; value = pos 0 }
+-- an answer under a test
+picked : {A : Type 0} (t : Bool) (x r : A) → cond t (Some x) None ≡ Some r → (t ≡ true) × (x ≡ r)
+picked true x r e = (refl, (cc))
+picked false x r e = let z : _≡_ {A = ℕ} 0 1 = cc in absurd (omega arith)
+
+-- ---- the rows of any curve
+
+module _ (V : ℤ → ℤ) (first last : ℤ) (step : ℕ) where
+  abbrev pub row : ℕ → Option Row
+  row i = cond (ltb i (rowCount first last step)) (Some (rowAt V first step i)) None
+
+  -- what holds of the rows of the definition holds of each row that is answered
+  pub each-row : (P : Row → Type 0) (i : ℕ) → (i < rowCount first last step → P (rowAt V first step i))
+      → (r : Row) → row i ≡ Some r → P r
+  each-row P i p r e =
+      let a = picked (ltb i (rowCount first last step)) (rowAt V first step i) r e in
+      subst P (a .1) (p (ltb-true _ _ (a .0)))
+
+  -- and of two neighbours
+  both-rows : (P : Row → Row → Type 0) (i : ℕ)
+      → (suc i < rowCount first last step → P (rowAt V first step i) (rowAt V first step (suc i)))
+      → (r s : Row) → row i ≡ Some r → row (suc i) ≡ Some s → P r s
+  both-rows P i p r s e d =
+      each-row (λ s. P r s) (suc i) (λ h. each-row (λ r. P r (rowAt V first step (suc i))) i (λ _. p h) r e) s d
+
+-- ---- the rows of a lawful curve
 
 module _ (m : Meaning) (k : Rules m) (first last : ℤ) (step : ℕ) (cf : Coordinate first) (cl : Coordinate last)
-    (order : first ≤ℤ last) (some : 1 ≤ step) (t : Table) (is : Tabulates m first last step t) where
-  count-is : count t ≡ rowCount first last step
-  count-is = ap length (is .rows-are) ∙ rows-length (m .V) first step (rowCount first last step)
+    (order : first ≤ℤ last) (some : 1 ≤ step) where
+  fits : (i : ℕ) → i < rowCount first last step → Coordinate (readingAt first step i)
+  fits i h =
+      let r = reading-inside first last step i order h in
+      record { low = omega (arith, ints); high = omega (arith, ints) }
 
-  row-is : (i : ℕ) → i < count t → getD (vec-items (t .rows)) i none ≡ rowAt (m .V) first step i
-  row-is i h =
-      ap (λ rs. getD rs i none) (is .rows-are)
-      ∙ rows-at (m .V) first step (rowCount first last step) i none (omega (arith, count-is))
-
-  inside : (i : ℕ) → i < count t → readingAt first step i ≤ℤ last
-  inside i h = reading-inside first last step i order (omega (arith, count-is))
-
-  fits : (i : ℕ) → i < count t → Coordinate (readingAt first step i)
-  fits i h = let r = inside i h in record { low = omega (arith, ints); high = omega (arith, ints) }
-
-  -- what row i says of the curve, from what the curve says
-  at-row : (P : ℤ → ℤ → Type 0) (i : ℕ) → i < count t → P (readingAt first step i) (m .V (readingAt first step i))
-      → P (reading t i) (value t i)
-  at-row P i h p = subst (λ r. P (r .reading) (r .value)) (sym (row-is i h)) p
-
-  -- what holds of every value of the curve holds of every row's
-  pub each-value : (P : ℤ → Type 0) → ((x : ℤ) → P (m .V x)) → (i : ℕ) → i < count t → P (value t i)
-  each-value P p i h = at-row (λ x v. P v) i h (p _)
-
-  -- two neighbouring rows
   next-is : (i : ℕ) → readingAt first step (suc i) ≡ readingAt first step i +ℤ pos step
   next-is i = omega (arith, ints)
 
-  steady : (i : ℕ) → suc i < count t → value t i ≤ℤ value t (suc i)
-  steady i h =
-      let l : i < count t = omega arith in
-      subst₂ _≤ℤ_ (sym (ap (λ r. r .value) (row-is i l))) (sym (ap (λ r. r .value) (row-is (suc i) h)))
-      (k .value-mono _ _ (fits i l) (fits (suc i) h) (omega (arith, ints, next-is i)))
+  steady : (i : ℕ) → suc i < rowCount first last step → m .V (readingAt first step i) ≤ℤ m .V (readingAt first step (suc i))
+  steady i h = k .value-mono _ _ (fits i (omega arith)) (fits (suc i) h) (omega (arith, ints, next-is i))
 
-  gentle : (i : ℕ) → suc i < count t → value t (suc i) ≤ℤ (value t i +ℤ pos (m .S * step + 2 * m .R))
+  gentle : (i : ℕ) → suc i < rowCount first last step
+      → m .V (readingAt first step (suc i)) ≤ℤ (m .V (readingAt first step i) +ℤ pos (m .S * step + 2 * m .R))
   gentle i h =
-      let l : i < count t = omega arith in
-      subst₂ (λ v w. v ≤ℤ (w +ℤ pos (m .S * step + 2 * m .R)))
-      (ap (m .V) (sym (next-is i)) ∙ sym (ap (λ r. r .value) (row-is (suc i) h))) (sym (ap (λ r. r .value) (row-is i l)))
-      (value-rise m k (readingAt first step i) step (fits i l) (subst Coordinate (next-is i) (fits (suc i) h)))
+      subst (λ x. m .V x ≤ℤ (m .V (readingAt first step i) +ℤ pos (m .S * step + 2 * m .R))) (sym (next-is i))
+      (value-rise m k (readingAt first step i) step (fits i (omega arith)) (subst Coordinate (next-is i) (fits (suc i) h)))
 
-  pub faithful : Faithful m first last step t
+  pub faithful : Faithful (m .E) (m .S) (m .R) first last step (row (m .V) first last step)
   faithful = record {
-    there = λ i h. let n = reading-there first last step i some order h in omega (arith, count-is);
-    inside = inside;
-    reads = λ i h. ap (λ r. r .reading) (row-is i h);
-    near-low = λ i h. rw (is .radius-is) (at-row (λ x v. m .E (whole x) ≤ᶠ whole v +ᶠ whole (pos (m .R))) i h (k .value-low _ (fits i h)));
-    near-high = λ i h. rw (is .radius-is) (at-row (λ x v. whole v ≤ᶠ m .E (whole x) +ᶠ whole (pos (m .R))) i h (k .value-high _ (fits i h)));
-    steady = steady;
-    gentle = λ i h. rw (is .rise-is, is .radius-is) (gentle i h);
+    there = λ i h. (rowAt (m .V) first step i, there i (reading-there first last step i some order h));
+    inside = λ i. each-row (m .V) first last step (λ r. r .reading ≤ℤ last) i (reading-inside first last step i order);
+    reads = λ i. each-row (m .V) first last step (λ r. r .reading ≡ readingAt first step i) i (λ _. refl);
+    near-low =
+        λ i. each-row (m .V) first last step (λ r. m .E (whole (r .reading)) ≤ᶠ whole (r .value) +ᶠ whole (pos (m .R))) i
+        (λ h. k .value-low _ (fits i h));
+    near-high =
+        λ i. each-row (m .V) first last step (λ r. whole (r .value) ≤ᶠ m .E (whole (r .reading)) +ᶠ whole (pos (m .R))) i
+        (λ h. k .value-high _ (fits i h));
+    steady = λ i. both-rows (m .V) first last step (λ r s. r .value ≤ℤ s .value) i (steady i);
+    gentle = λ i. both-rows (m .V) first last step (λ r s. s .value ≤ℤ (r .value +ℤ pos (m .S * step + 2 * m .R))) i (gentle i);
   }
+    where
+      there : (i : ℕ) → i < rowCount first last step → row (m .V) first last step i ≡ Some (rowAt (m .V) first step i)
+      there i h = let t : ltb i (rowCount first last step) ≡ true = lt-ltb _ _ h in rw t refl

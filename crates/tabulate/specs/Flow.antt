@@ -1,65 +1,81 @@
--- The flow of a nozzle row: its curve, and the check of its settings.
+-- The flow of a nozzle row: its settings, its curve and the law of its table.
 use mathlib.Core.Path.{_≡_}
-use mathlib.Core.Bool.{cond, _||_}
-use Prim.Native.Nat.{ℕ, _≤_}
-use lib.IntN.{ℤ, pos}
-use lib.Signed.{ltZ}
+use Prim.Native.Nat.{ℕ}
+use lib.IntN.{ℤ, pos, natAbs}
+use lib.Signed.{_≤ℤ_}
 use Rattle.std.specs.declared.option.Option.{Option}
 use Rattle.std.specs.declared.option.Option.the-variants.{Some, None}
-use Rattle.engine.specs.Coordinates.{hold, least-shift, greatest-shift}
+use Rattle.engine.specs.Coordinates.{held-shift}
 use Rattle.engine.specs.Curves.{Meaning, bare, chain, offset, clamp}
 use Rattle.engine.specs.Root.{rootCurve}
-use Rattle.engine.specs.Bands.{bandRefusal, IsBand}
-use Rattle.engine.specs.Refusals.{out-of-limits}
+use Rattle.engine.specs.Bands.{bandRefusal}
+use Rattle.engine.specs.Refusals.{Told}
 use Rattle.engine.specs.declared.band.Band.{Band}
 use Rattle.engine.specs.declared.curve.Bare.{Bare}
 use Rattle.engine.specs.declared.root.Root.{Root}
-use Rattle.engine.specs.declared.layer.Chain.{Chain}
-use Rattle.engine.specs.declared.layer.Offset.{Offset}
-use Rattle.engine.specs.declared.layer.Clamp.{Clamp}
+use Rattle.engine.specs.declared.layer.chain.Chain.{Chain}
+use Rattle.engine.specs.declared.layer.offset.Offset.{Offset}
+use Rattle.engine.specs.declared.layer.clamp.Clamp.{Clamp}
+use Rattle.tabulate.specs.Tables.{stepRefusal, rowOf, Faithful}
 use Rattle.tabulate.specs.declared.nozzle.Settings.{Settings}
-use Rattle.tabulate.specs.declared.nozzle.Plan.{Plan}
+use Rattle.tabulate.specs.declared.table.Row.{Row}
+use Rattle.tabulate.specs.declared.table.Table.{Table}
 
 -- ---- the curve
 
--- a shift as an offset takes it
-abbrev pub held-shift : ℤ → ℤ
-held-shift = hold least-shift greatest-shift
+-- a clamp over an offset over root after an offset of the bare curve
+abbrev pub pile : (low high trim zero : ℤ) → Meaning
+pile low high trim zero = clamp low high (offset trim (chain rootCurve (offset zero bare)))
 
--- the root of the reading plus zero, plus trim, held to low..high
+-- the flow that the settings ask for: the root of the reading plus zero, plus trim, held to low..high
 abbrev pub flowCurve : Settings → Meaning
-flowCurve s =
-    clamp (s .low) (s .high) (offset (held-shift (s .trim)) (chain rootCurve (offset (held-shift (s .zero)) bare)))
+flowCurve s = pile (s .low) (s .high) (held-shift (s .trim)) (held-shift (s .zero))
 
--- the curve in the code has these parts
-pub record Flows (zero trim : ℤ) (limit : Band) (c : Clamp (Offset (Chain Root (Offset Bare)))) : Type 0 where
+-- the curve in the code, by its type and by its meaning
+abbrev pub FlowCurve : Type 0
+FlowCurve = Clamp (Offset (Chain Root (Offset Bare)))
+
+abbrev pub flowOf : FlowCurve → Meaning
+flowOf c = pile (c .band .lo) (c .band .hi) (c .below .shift) (c .below .below .inner .shift)
+
+-- the curve with these numbers
+pub record Piled (zero trim : ℤ) (limit : Band) (c : FlowCurve) : Type 0 where
   pub zero-is : c .below .below .inner .shift ≡ held-shift zero
   pub trim-is : c .below .shift ≡ held-shift trim
   pub limit-is : c .band ≡ limit
 
--- ---- the check
+-- ---- the answer
 
 -- the first of two refusals
-abbrev pub orElse : Option ℕ → Option ℕ → Option ℕ
-orElse (Some n) later = Some n
+abbrev pub orElse : Option Told → Option Told → Option Told
+orElse (Some t) later = Some t
 orElse None later = later
 
--- a step is a whole number from 1 to 16383
-abbrev pub stepRefusal : ℤ → Option ℕ
-stepRefusal step = cond (ltZ step (pos 1) || ltZ (pos 16383) step) (Some out-of-limits) None
-
-pub record IsStep (step : ℤ) (n : ℕ) : Type 0 where
-  pub same : step ≡ pos n
-  pub low : 1 ≤ n
-  pub high : n ≤ 16383
-
 -- the limit is a band, then the span is one, then the step is lawful
-abbrev pub settingsRefusal : Settings → Option ℕ
+abbrev pub settingsRefusal : Settings → Option Told
 settingsRefusal s =
     orElse (bandRefusal (s .low) (s .high)) (orElse (bandRefusal (s .first) (s .last)) (stepRefusal (s .step)))
 
--- what lawful settings are taken for
-pub record Planned (s : Settings) (p : Plan) : Type 0 where
-  pub limit-is : IsBand (s .low) (s .high) (p .limit)
-  pub span-is : IsBand (s .first) (s .last) (p .span)
-  pub step-is : IsStep (s .step) (p .step)
+-- the table that the settings ask for, number by number
+pub record Flow-table (s : Settings) (t : Table FlowCurve) : Type 0 where
+  pub zero-is : t .curve .below .below .inner .shift ≡ held-shift (s .zero)
+  pub trim-is : t .curve .below .shift ≡ held-shift (s .trim)
+  pub low-is : t .curve .band .lo ≡ s .low
+  pub high-is : t .curve .band .hi ≡ s .high
+  pub first-is : t .span .lo ≡ s .first
+  pub last-is : t .span .hi ≡ s .last
+  pub step-is : pos (t .step) ≡ s .step
+
+-- ---- the law
+
+-- row i of a flow table
+abbrev pub flowRow : Table FlowCurve → ℕ → Option Row
+flowRow t = rowOf (flowOf (t .curve)) t
+
+-- The rows speak for the exact flow, with the rise and the radius that the table tells, and have no flow that the valves
+-- do not take.
+pub record Flow-law (s : Settings) (t : Table FlowCurve) : Type 0 where
+  pub faithful : Faithful (flowCurve s .E) (flowOf (t .curve) .S) (flowOf (t .curve) .R) (s .first) (s .last)
+      (natAbs (s .step)) (flowRow t)
+  pub not-below : (i : ℕ) (r : Row) → flowRow t i ≡ Some r → s .low ≤ℤ r .value
+  pub not-above : (i : ℕ) (r : Row) → flowRow t i ≡ Some r → r .value ≤ℤ s .high

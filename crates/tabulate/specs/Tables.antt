@@ -1,13 +1,17 @@
 -- A table of a curve: a row for each of the readings first, first + step, first + 2 step .. that is not above last.
-use Prim.Native.Nat.{ℕ, zero, suc, _+_, _*_, _/_, _≤_, _<_}
+use Prim.Native.Nat.{ℕ, suc, _+_, _*_, _/_}
 use mathlib.Core.Path.{_≡_}
-use mathlib.Core.List.{List, [], _∷_, _++_}
+use mathlib.Core.Bool.{cond, _||_}
+use lib.Dec.{ltb}
 use lib.IntN.{ℤ, pos, _+ℤ_, _-ℤ_, natAbs}
-use lib.ListN.{length, getD}
-use lib.Signed.{_≤ℤ_}
-use Rattle.std.specs.Of.Vec.{vec-items}
-use Rattle.engine.specs.Fraction.{whole, _+ᶠ_, _≤ᶠ_}
+use lib.Signed.{_≤ℤ_, ltZ}
+use Rattle.std.specs.declared.option.Option.{Option}
+use Rattle.std.specs.declared.option.Option.the-variants.{Some, None}
+use Rattle.engine.specs.Fraction.{Fraction, whole, _+ᶠ_, _≤ᶠ_}
+use Rattle.engine.specs.Coordinates.{furthest}
 use Rattle.engine.specs.Curves.{Meaning}
+use Rattle.engine.specs.Refusals.{Told, alone, out-of-limits}
+use Rattle.engine.specs.declared.band.Band.{Band}
 use Rattle.tabulate.specs.declared.table.Row.{Row}
 use Rattle.tabulate.specs.declared.table.Table.{Table}
 
@@ -25,41 +29,39 @@ rowCount first last step = suc (natAbs (last -ℤ first) / step)
 abbrev pub rowAt : (ℤ → ℤ) → ℤ → ℕ → ℕ → Row
 rowAt V first step i = record { reading = readingAt first step i; value = V (readingAt first step i) }
 
--- the first n rows
-unfoldable pub rowsUpTo : (ℤ → ℤ) → ℤ → ℕ → ℕ → List Row
-rowsUpTo V first step zero = []
-rowsUpTo V first step (suc n) = rowsUpTo V first step n ++ (rowAt V first step n ∷ [])
+-- ---- a table in the code
 
--- the table of the curve m: all rows, its rise and its radius
-pub record Tabulates (m : Meaning) (first last : ℤ) (step : ℕ) (t : Table) : Type 0 where
-  pub rows-are : vec-items (t .rows) ≡ rowsUpTo (m .V) first step (rowCount first last step)
-  pub rise-is : t .rise ≡ m .S
-  pub radius-is : t .radius ≡ m .R
+-- a step is a whole number from 1 to 16383
+abbrev pub stepRefusal : ℤ → Option Told
+stepRefusal step = cond (ltZ step (pos 1) || ltZ (pos furthest) step) (Some (alone out-of-limits)) None
+
+-- the table of a curve over a span
+pub record IsTable {C : Type 0} (curve : C) (span : Band) (step : ℤ) (t : Table C) : Type 0 where
+  pub curve-is : t .curve ≡ curve
+  pub span-is : t .span ≡ span
+  pub step-is : pos (t .step) ≡ step
+
+-- how many rows it has
+abbrev pub countOf : {C : Type 0} → Table C → ℕ
+countOf t = rowCount (t .span .lo) (t .span .hi) (t .step)
+
+-- its row i, where its curve means m
+abbrev pub rowOf : {C : Type 0} → Meaning → Table C → ℕ → Option Row
+rowOf m t i = cond (ltb i (countOf t)) (Some (rowAt (m .V) (t .span .lo) (t .step) i)) None
 
 -- ---- what a table is good for
 
--- the rows of a table, how many there are, and what stands in row i
-abbrev pub count : Table → ℕ
-count t = length (vec-items (t .rows))
-
-abbrev pub reading : Table → ℕ → ℤ
-reading t i = getD (vec-items (t .rows)) i (record { reading = pos 0; value = pos 0 }) .reading
-
-abbrev pub value : Table → ℕ → ℤ
-value t i = getD (vec-items (t .rows)) i (record { reading = pos 0; value = pos 0 }) .value
-
--- A table speaks for the exact curve of m.
-pub record Faithful (m : Meaning) (first last : ℤ) (step : ℕ) (t : Table) : Type 0 where
-  -- there is a row i exactly where i steps from the first reading do not pass the last
-  pub there : (i : ℕ) → readingAt first step i ≤ℤ last → i < count t
-  pub inside : (i : ℕ) → i < count t → readingAt first step i ≤ℤ last
-  pub reads : (i : ℕ) → i < count t → reading t i ≡ readingAt first step i
-  -- each value lies within the told radius of the exact curve at its reading
-  pub near-low : (i : ℕ) → i < count t
-      → m .E (whole (reading t i)) ≤ᶠ whole (value t i) +ᶠ whole (pos (t .radius))
-  pub near-high : (i : ℕ) → i < count t
-      → whole (value t i) ≤ᶠ m .E (whole (reading t i)) +ᶠ whole (pos (t .radius))
-  -- no value is below the one before, nor above it by more than the told rise over a step and the radius on both sides
-  pub steady : (i : ℕ) → suc i < count t → value t i ≤ℤ value t (suc i)
-  pub gentle : (i : ℕ) → suc i < count t
-      → value t (suc i) ≤ℤ (value t i +ℤ pos (t .rise * step + 2 * t .radius))
+-- The rows speak for an exact curve E from first to last, with a told rise and a told radius.
+pub record Faithful (E : Fraction → Fraction) (rise radius : ℕ) (first last : ℤ) (step : ℕ) (row : ℕ → Option Row)
+    : Type 0 where
+  -- there is a row i exactly where i steps from the first reading do not pass the last, and it has that reading
+  pub there : (i : ℕ) → readingAt first step i ≤ℤ last → (r : Row) × (row i ≡ Some r)
+  pub inside : (i : ℕ) (r : Row) → row i ≡ Some r → r .reading ≤ℤ last
+  pub reads : (i : ℕ) (r : Row) → row i ≡ Some r → r .reading ≡ readingAt first step i
+  -- each value lies within the radius of the exact curve at its reading
+  pub near-low : (i : ℕ) (r : Row) → row i ≡ Some r → E (whole (r .reading)) ≤ᶠ whole (r .value) +ᶠ whole (pos radius)
+  pub near-high : (i : ℕ) (r : Row) → row i ≡ Some r → whole (r .value) ≤ᶠ E (whole (r .reading)) +ᶠ whole (pos radius)
+  -- no value is below the one before it, nor above it by more than the rise over a step and the radius on both sides
+  pub steady : (i : ℕ) (r s : Row) → row i ≡ Some r → row (suc i) ≡ Some s → r .value ≤ℤ s .value
+  pub gentle : (i : ℕ) (r s : Row) → row i ≡ Some r → row (suc i) ≡ Some s
+      → s .value ≤ℤ (r .value +ℤ pos (rise * step + 2 * radius))

@@ -4,7 +4,12 @@
 //! Standard output gets a line `READING FLOW` for each reading, and a last line with their number, the rise and the
 //! radius. A refusal is told by its number on standard error, with status 1. `docs/tabulate.md` has it all.
 
-use fault::Fault;
+use engine::curve::BareCurve;
+use engine::layer::ChainCurve;
+use engine::layer::ClampCurve;
+use engine::layer::OffsetCurve;
+use engine::root::RootCurve;
+use nozzle::Flow;
 use nozzle::Settings;
 use nozzle::tabulate;
 use std::error::AnyError;
@@ -12,9 +17,10 @@ use std::io;
 use std::str::SplitWhitespace;
 use table::Table;
 
-mod fault;
 mod nozzle;
 mod table;
+#[cfg(test)]
+mod tests;
 
 fn main(rt: LibcRuntime) -> Result<(), AnyError> {
     if let Err(error) = run(&rt) {
@@ -25,10 +31,12 @@ fn main(rt: LibcRuntime) -> Result<(), AnyError> {
 }
 
 fn run(rt: &LibcRuntime) -> Result<(), AnyError> {
-    let settings = read_settings(rt)?;
-    match tabulate(rt.alloc(), settings) {
+    match tabulate(read_settings(rt)?) {
         Ok(table) => write_table(rt, &table),
-        Err(fault) => Err(told(rt, fault)?),
+        Err(refusal) => {
+            let number = refusal.number();
+            Err(format!(rt.alloc(), "refused {number}")?.into())
+        }
     }
 }
 
@@ -57,24 +65,17 @@ fn next_number(words: &mut SplitWhitespace<'_>) -> Result<i32, AnyError> {
     }
 }
 
-fn write_table(rt: &LibcRuntime, table: &Table) -> Result<(), AnyError> {
-    for row in table.rows.as_slice() {
-        let reading = row.reading;
-        let flow = row.value;
-        println!(rt, "{reading} {flow}")?;
+fn write_table(rt: &LibcRuntime, table: &Table<Flow>) -> Result<(), AnyError> {
+    let count = table.len();
+    for i in 0..count {
+        if let Some(row) = table.row(i) {
+            let reading = row.reading;
+            let flow = row.value;
+            println!(rt, "{reading} {flow}")?;
+        }
     }
-    let count = table.rows.len();
-    let rise = table.rise;
-    let radius = table.radius;
+    let rise = table.rise();
+    let radius = table.radius();
     println!(rt, "{count} readings, rise {rise}, radius {radius}")?;
     Ok(())
-}
-
-fn told(rt: &LibcRuntime, fault: Fault) -> Result<AnyError, AnyError> {
-    Ok(
-        match fault.number() {
-            Some(number) => format!(rt.alloc(), "refused {number}")?.into(),
-            None => "out of memory".into(),
-        },
-    )
 }

@@ -1,15 +1,8 @@
 //! A nozzle row: its settings, its curve and the table of its flow.
 
-ghost use mathlib.Core.Path.{_≡_};
-ghost use Rattle.engine.specs.Refusals.{Outcome};
-ghost use Rattle.std.specs.Vec.{made};
-ghost use Rattle.tabulate.specs.Answers.{Tabulated, Flow-law};
-ghost use Rattle.tabulate.specs.Flow.{Flows, IsStep, Planned, settingsRefusal, stepRefusal};
-use super::fault::Fault;
+ghost use Rattle.engine.specs.Refusals.{Outcome, told};
+ghost use Rattle.tabulate.specs.Flow.{Flow-law, Flow-table, Piled, settingsRefusal};
 use super::table::Table;
-use super::table::table_of;
-use crate::fault::FaultFromAlloc;
-use crate::fault::FaultFromRefusal;
 use engine::band::Band;
 use engine::curve::Bare;
 use engine::curve::BareCurve;
@@ -22,7 +15,6 @@ use engine::layer::OffsetCurve;
 use engine::refusal::Refusal;
 use engine::root::Root;
 use engine::root::RootCurve;
-use std::alloc::Global;
 
 /// The settings of a nozzle row, as an engineer types them.
 #[derive(Clone, Copy)]
@@ -43,53 +35,26 @@ pub struct Settings {
     pub step: i32,
 }
 
-/// The root of the reading plus `zero`, plus `trim`, held to the limit.
+/// The root of the reading plus `zero`, plus `trim`, held to `low..high`.
 pub type Flow = Clamp<Offset<Chain<Root, Offset<Bare>>>>;
 
 /// The table of a nozzle row's flow at the readings `first`, `first + step`, `first + 2 step` .. up to `last`.
 ///
 /// Refuses 1 and then 11 where `low` and `high` make no band, then the same of `first` and `last`, then 11 where `step`
 /// is not from 1 to 16383.
-pub fn tabulate(heap: Global, s: Settings) -> Result<Table, Fault>
-    ensures answer { λ r. ⌜ Tabulated s r ⌝ }
-    ensures law { λ r. ⌜ made r (Flow-law s) ⌝ }
+pub fn tabulate(s: Settings) -> Result<Table<Flow>, Refusal>
+    ensures answer { λ r. ⌜ Outcome told (settingsRefusal s) (Flow-table s) r ⌝ }
+    ensures law { λ r. ⌜ Outcome told (settingsRefusal s) (Flow-law s) r ⌝ }
 {
-    let plan = checked(s)?;
-    let curve = flow_curve(s.zero, s.trim, plan.limit);
-    Ok(table_of(heap, &curve, plan.span, plan.step)?)
+    let limit = Band::new(s.low, s.high)?;
+    let span = Band::new(s.first, s.last)?;
+    Table::new(flow_curve(s.zero, s.trim, limit), span, s.step)
 }
 
 // The curve of a nozzle row.
 fn flow_curve(zero: i32, trim: i32, limit: Band) -> Flow
-    ensures { λ r. ⌜ Flows zero trim limit r ⌝ }
+    ensures { λ r. ⌜ Piled zero trim limit r ⌝ }
 {
     let root = Chain::new(Root, Offset::new(Bare, zero));
     Clamp::new(Offset::new(root, trim), limit)
-}
-
-// Lawful settings.
-#[derive(Clone, Copy)]
-struct Plan {
-    limit: Band,
-    span: Band,
-    step: u32,
-}
-
-// The settings checked: the limit and then the span as bands, then the step.
-fn checked(s: Settings) -> Result<Plan, Refusal>
-    ensures { λ r. ⌜ Outcome (settingsRefusal s) (Planned s) r ⌝ }
-{
-    let limit = Band::new(s.low, s.high)?;
-    let span = Band::new(s.first, s.last)?;
-    let step = checked_step(s.step)?;
-    Ok(Plan { limit, span, step })
-}
-
-fn checked_step(step: i32) -> Result<u32, Refusal>
-    ensures { λ r. ⌜ Outcome (stepRefusal step) (IsStep step) r ⌝ }
-{
-    if step < 1 || step > 16383 {
-        return Err(Refusal::OutOfLimits);
-    }
-    Ok(step as u32)
 }

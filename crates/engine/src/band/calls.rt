@@ -3,17 +3,17 @@
 ghost use mathlib.Core.Path.{_≡_};
 ghost use Rattle.engine.specs.Bands.{bandRefusal, IsBand, inBand};
 ghost use Rattle.engine.specs.Coordinates.{hold, lowest, highest};
-ghost use Rattle.engine.specs.Refusals.{Outcome};
-use super::super::coordinate::HIGHEST;
-use super::super::coordinate::LOWEST;
-use super::super::coordinate::is_coordinate;
-use super::super::refusal::Refusal;
+ghost use Rattle.engine.specs.Refusals.{Outcome, told};
 use super::Band;
+use crate::coordinate::HIGHEST;
+use crate::coordinate::LOWEST;
+use crate::coordinate::is_coordinate;
+use crate::refusal::Refusal;
 
 impl Band {
     /// The band from a to b. Refuses 1 where either is no coordinate, then 11 where b is below a.
     pub fn new(a: i32, b: i32) -> Result<Band, Refusal>
-        ensures { λ r. ⌜ Outcome (bandRefusal a b) (IsBand a b) r ⌝ }
+        ensures { λ r. ⌜ Outcome told (bandRefusal a b) (IsBand a b) r ⌝ }
     {
         if !is_coordinate(a) || !is_coordinate(b) {
             return Err(Refusal::NotCoordinate);

@@ -1,34 +1,34 @@
-use mathlib.Core.Path.{ap, _∙_}
-use native.Mathlib.Omega.{arith}
+use borrow.Author.Needs.{needs}
 use mir.Val.{SFits}
 use mir.Syntax.{w32}
-use borrow.Author.Needs.{needs}
 use Rattle.std.proofs.shelf.Results.{err-from-errBy}
-use Rattle.std.proofs.shelf.Signed.{ints, toZ-ofZ}
-use Rattle.tabulate.proofs.Flows.{pile, same-pile, same-table, flow-law}
+use Rattle.std.proofs.shelf.Signed.{toZ-ofZ}
+use Rattle.tabulate.proofs.Flows.{answer, refused-first, refused-later}
 use Rattle.tabulate.proofs.nozzle.tabulate.Needs as need
 
-pub returns-in-Break-plan : need.returns-in-Break-plan
-returns-in-Break-plan c =
-    let p = err-from-errBy (c .from-residual .result) (c .from-residual .ensures .1) in
-    rw (p .1, p .2) (record { answer = c .in-Break-plan .ensures tt; law = tt })
-
-pub returns-in-Break-table-of : need.returns-in-Break-table-of
-returns-in-Break-table-of c =
-    let p = err-from-errBy (c .from-residual-in-Break-table-of .result) (c .from-residual-in-Break-table-of .ensures .1) in
-    rw (p .1, p .2) (record { answer = c .in-Continue-plan .ensures tt .0; law = tt })
+pub returns-in-Break-span : need.returns-in-Break-span
+returns-in-Break-span c =
+    let low : SFits w32 (c .args .s .low) = search needs in
+    let high : SFits w32 (c .args .s .high) = search needs in
+    let first : SFits w32 (c .args .s .first) = search needs in
+    let last : SFits w32 (c .args .s .last) = search needs in
+    let p = err-from-errBy (c .from-residual-in-Break-span .result) (c .from-residual-in-Break-span .ensures .1) in
+    let limit = simp toZ-ofZ at (c .in-Continue-limit .ensures tt) in
+    let due = refused-later (limit .0) (refused-first _ (simp toZ-ofZ at (c .in-Break-span .ensures tt))) in
+    rw (p .1, p .2) (record { answer = due; law = due })
 
 pub returns : need.returns
-unfolding pile
 returns c =
     let zero : SFits w32 (c .args .s .zero) = search needs in
     let trim : SFits w32 (c .args .s .trim) = search needs in
-    let s = c .args .s in
-    let planned = c .in-Continue-plan .ensures tt .1 in
-    let parts = simp toZ-ofZ at (c .flow-curve-curve .ensures) in
-    let lo-is = ap (λ b. b .lo) (parts .limit-is) ∙ planned .limit-is .0 in
-    let hi-is = ap (λ b. b .hi) (parts .limit-is) ∙ planned .limit-is .1 in
-    let curve-is = same-pile lo-is hi-is (parts .trim-is) (parts .zero-is) in
-    let step-is = planned .step-is .same in
-    let is = same-table _ curve-is (planned .span-is .0) (planned .span-is .1) (omega (arith, ints)) (c .in-Continue-table-of .ensures tt) in
-    record { answer = (c .in-Continue-plan .ensures tt .0, is); law = flow-law s (c .in-Continue-plan .plan) planned _ is }
+    let low : SFits w32 (c .args .s .low) = search needs in
+    let high : SFits w32 (c .args .s .high) = search needs in
+    let first : SFits w32 (c .args .s .first) = search needs in
+    let last : SFits w32 (c .args .s .last) = search needs in
+    let step : SFits w32 (c .args .s .step) = search needs in
+    let limit = simp toZ-ofZ at (c .in-Continue-limit .ensures tt) in
+    let span = simp toZ-ofZ at (c .in-Continue-span .ensures tt) in
+    let curve = simp toZ-ofZ at (c .flow-curve .ensures) in
+    let table = simp toZ-ofZ at (c .new-3 .ensures) in
+    let out = answer (c .args .s) _ _ (c .flow-curve .result) (c .new-3 .result) limit span curve table in
+    record { answer = out .0; law = out .1 }
