@@ -1,17 +1,18 @@
 -- A curve whose pieces meet at the knots: what each piece keeps, the whole exact curve keeps.
-use Prim.Native.Nat.{ℕ, suc, _*_, _≤_, _<_}
-use mathlib.Core.Path.{_≡_, refl, sym, subst, subst₂}
+use Prim.Native.Nat.{ℕ, zero, suc, _+_, _*_, _≤_, _<_}
+use mathlib.Core.Path.{_≡_, refl, sym, subst, subst₂, _∙_}
 use mathlib.Core.Logic.{_⊎_, inl, inr}
 use mathlib.Core.Bool.{Bool, true, false}
 use native.Mathlib.Decide.{decLt}
+use native.Mathlib.Nat.{le-dest}
 use native.Mathlib.Omega.{arith}
 use lib.IntN.{pos}
 use Rattle.engine.specs.Fraction.{Fraction, whole, _+ᶠ_, _≤ᶠ_, _≈ᶠ_, leᶠ}
 use Rattle.engine.specs.Coordinates.{Within}
 use Rattle.engine.specs.Pieces.{Knot, piecewise}
-use Rattle.engine.proofs.Orders.{≤ᶠ-refl, ≤ᶠ-trans, leᶠ-true, leᶠ-false, leᶠ-holds}
+use Rattle.engine.proofs.Orders.{by-test, ≤ᶠ-refl, ≤ᶠ-trans, leᶠ-true, leᶠ-false, leᶠ-holds}
 use Rattle.engine.proofs.Lags.{lag, lag-anti, lag-mono, rise-out}
-use Rattle.engine.proofs.Piecewise.{Pieces, piecewise-mono, piecewise-both, piecewise-map}
+use Rattle.engine.proofs.Piecewise.{Pieces, piecewise-mono, piecewise-both, piecewise-map, piecewise-at, piecewise-none}
 
 -- `from i` is the exact value from knot i on
 module _ (k : ℕ → Knot) (top S : ℕ) (from : ℕ → Fraction → Fraction) where
@@ -150,3 +151,80 @@ module _ (k : ℕ → Knot) (top S : ℕ) (from : ℕ → Fraction → Fraction)
           | inl p ↦ subst (λ n. Within (from n q)) (sym p) (subst Within (sym (j .at-top q)) (knot top (omega arith)))
           | inr s ↦ between i s (leᶠ-true (X i) q e) (leᶠ-false (X (suc i)) q (n s))
         ]
+
+    -- ---- each piece is the curve between its knots, and the ends are flat
+
+    abbrev curve : Fraction → Fraction
+    curve q = piecewise under (λ q. Y 0) from top q
+
+    -- the order of any two knots
+    x-order : (i n : ℕ) → i + n ≤ top → X i ≤ᶠ X (i + n)
+    x-order i zero l = let e : i ≡ i + 0 = omega arith in subst (λ m. X i ≤ᶠ X m) e (≤ᶠ-refl (X i))
+    x-order i (suc n) l =
+        let e : suc (i + n) ≡ i + suc n = omega arith in
+        subst (λ m. X i ≤ᶠ X m) e (≤ᶠ-trans (x-order i n (omega arith)) (j .x-rises (i + n) (omega arith)))
+
+    x-below : (i m : ℕ) → i ≤ m → m ≤ top → X i ≤ᶠ X m
+    x-below i m h l = at (le-dest h)
+      where
+        at : (n : ℕ) × (i + n ≡ m) → X i ≤ᶠ X m
+        at g = subst (λ m. X i ≤ᶠ X m) (g .1) (x-order i (g .0) (omega (arith, g .1)))
+
+    -- where knot i is above q, so is every later one
+    not-later : (i : ℕ) (q : Fraction) → under i q ≡ false → (m : ℕ) → i ≤ m → m ≤ top → under m q ≡ false
+    not-later i q e m a b = by-test (under m q)
+        (λ t. absurd (clash (leᶠ-holds (X i) q (≤ᶠ-trans (x-below i m a b) (leᶠ-true (X m) q t)))))
+        (λ f. f)
+      where
+        clash : under i q ≡ true → ⊥
+        clash t = let z : _≡_ {A = ℕ} 0 1 = cc in omega arith
+
+    -- from the last knot on
+    pub joined-after : (q : Fraction) → X top ≤ᶠ q → curve q ≡ Y top
+    joined-after q h =
+        piecewise-at under (λ q. Y 0) from q top (leᶠ-holds (X top) q h) top (omega arith)
+        (λ m a b. absurd (omega arith))
+        ∙ j .at-top q
+
+    -- below the first knot
+    pub joined-before : (q : Fraction) → under 0 q ≡ false → curve q ≡ Y 0
+    joined-before q e = piecewise-none under (λ q. Y 0) from q top (λ m l. not-later 0 q e m (omega arith) l)
+
+    -- a knot that q has just reached: the pieces on both sides have its value there
+    meets : (i : ℕ) (q : Fraction) → i < top → X i ≤ᶠ q → q ≤ᶠ X (suc i) → X (suc i) ≤ᶠ q
+        → from (suc i) q ≈ᶠ from i q
+    meets i q l h r b = (
+      ≤ᶠ-trans here (≤ᶠ-trans (j .end i l .1) (j .grows i (X (suc i)) q l (j .x-rises i l) b r)),
+      ≤ᶠ-trans (exact-high i q l h r) (low (suc i) q (omega arith) b next),
+    )
+      where
+        next : suc i < top → q ≤ᶠ X (suc (suc i))
+        next s = ≤ᶠ-trans r (j .x-rises (suc i) s)
+
+        here : from (suc i) q ≤ᶠ Y (suc i)
+        here = elim (last (suc i) (omega arith)) [
+          | inl e ↦ subst (λ n. from n q ≤ᶠ Y n) (sym e) (subst (λ v. v ≤ᶠ Y top) (sym (j .at-top q)) (≤ᶠ-refl (Y top)))
+          | inr s ↦ ≤ᶠ-trans (j .grows (suc i) q (X (suc i)) s b r (j .x-rises (suc i) s)) (j .start (suc i) s .0)
+        ]
+
+    -- between two knots, where x rises strictly
+    pub joined-on : ((i : ℕ) (q : Fraction) → i < top → q ≤ᶠ X i → under (suc i) q ≡ false) → (i : ℕ) (q : Fraction)
+        → i < top → X i ≤ᶠ q → q ≤ᶠ X (suc i) → curve q ≈ᶠ from i q
+    joined-on strict i q l h r = by-test (under (suc i) q) reached short
+      where
+        found : (m : ℕ) → curve q ≡ from m q → from m q ≈ᶠ from i q → curve q ≈ᶠ from i q
+        found m e s = subst (λ v. v ≈ᶠ from i q) (sym e) s
+
+        short : under (suc i) q ≡ false → curve q ≈ᶠ from i q
+        short e =
+            found i
+            (piecewise-at under (λ q. Y 0) from q i (leᶠ-holds (X i) q h) top (omega arith) (not-later (suc i) q e))
+            (≤ᶠ-refl (from i q), ≤ᶠ-refl (from i q))
+
+        later : (n : ℕ) → suc i < n → n ≤ top → under n q ≡ false
+        later n a b = not-later (suc (suc i)) q (strict (suc i) q (omega arith) r) n a b
+
+        reached : under (suc i) q ≡ true → curve q ≈ᶠ from i q
+        reached t =
+            found (suc i) (piecewise-at under (λ q. Y 0) from q (suc i) t top (omega arith) later)
+            (meets i q l h r (leᶠ-true (X (suc i)) q t))

@@ -6,16 +6,17 @@ use native.Mathlib.Nat.{mul-le-mul-right, mul-le-mul, add-mul, le-dest}
 use native.Mathlib.Omega.{arith}
 use lib.Dec.{eqb}
 use lib.IntN.{pos, _+ℤ_, +ℤ-idr}
+use lib.Signed.{_≤ℤ_}
 use borrow.Author.Differences.{ints, up, down}
 use borrow.Author.Tests.{eq-eqb, ne-eqb}
-use Rattle.engine.specs.Fraction.{Fraction, den, whole, _+ᶠ_, _-ᶠ_, _*ᶠ_, _/ᶠ_, _≤ᶠ_, _≈ᶠ_}
-use Rattle.engine.specs.Pieces.{Knot, width, height, line-exact, line-from}
-use Rattle.engine.proofs.Orders.{≤ᶠ-refl, ≤ᶠ-trans, whole-≤}
+use Rattle.engine.specs.Fraction.{Fraction, den, whole, _+ᶠ_, _-ᶠ_, _*ᶠ_, _/ᶠ_, _≤ᶠ_, _≈ᶠ_, leᶠ}
+use Rattle.engine.specs.Pieces.{Knot, width, height, piecewise, line-exact, line-from, lineE}
+use Rattle.engine.proofs.Orders.{by-test, ≤ᶠ-refl, ≤ᶠ-trans, whole-≤, whole-≤-out, leᶠ-true}
 use Rattle.engine.proofs.Terms.{Is, Is-whole, Is-*, Is-/, Is-≤, val, Val-≤-out}
 use Rattle.engine.proofs.Sums.{+ᶠ-mono, shift-whole}
 use Rattle.engine.proofs.Lags.{lag}
 use Rattle.engine.proofs.Places.{Lawful, Place, lag-piece, x-is, y-is, x-order, wide, inside}
-use Rattle.engine.proofs.Joins.{Joined}
+use Rattle.engine.proofs.Joins.{Joined, joined-on}
 
 -- ---- the arithmetic, with each product by itself
 
@@ -144,3 +145,19 @@ module _ (k : ℕ → Knot) (top : ℕ) (law : Lawful k top) where
           (line-slow (k i) (width k i) (height k i) (wide k top law i l) S (gentle i l) p q
           (inside k top law i p l a (≤ᶠ-trans h b)) (inside k top law i q l (≤ᶠ-trans a h) b) h);
     }
+
+    -- between two knots the curve is the straight piece
+    pub line-on : (i : ℕ) (q : Fraction) → i < top → whole (k i .x) ≤ᶠ q → q ≤ᶠ whole (k (suc i) .x)
+        → lineE k top q ≈ᶠ line-exact (k i) (width k i) (height k i) q
+    unfolding lineE
+    line-on i q l h r =
+        subst (λ v. piecewise (λ i q. leᶠ (whole (k i .x)) q) (λ q. whole (k 0 .y)) (line-from k top) top q ≈ᶠ v)
+        (line-piece i q l) (joined-on k top S (line-from k top) line-joined strict i q l h r)
+      where
+        strict : (i : ℕ) (q : Fraction) → i < top → q ≤ᶠ whole (k i .x) → leᶠ (whole (k (suc i) .x)) q ≡ false
+        strict i q l h = by-test (leᶠ (whole (k (suc i) .x)) q)
+            (λ t. absurd (falls (whole-≤-out (k (suc i) .x) (k i .x) (≤ᶠ-trans (leᶠ-true (whole (k (suc i) .x)) q t) h))))
+            (λ f. f)
+          where
+            falls : k (suc i) .x ≤ℤ k i .x → ⊥
+            falls g = let s = law .x-rises i l in omega (arith, ints)

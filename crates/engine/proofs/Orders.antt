@@ -1,6 +1,6 @@
 -- The order of fractions and of whole numbers, and the tests for it.
 use Prim.Native.Nat.{ℕ, suc, _+_, _*_, _≤_}
-use mathlib.Core.Path.{_≡_, refl, sym, _∙_}
+use mathlib.Core.Path.{_≡_, refl, sym, subst, _∙_}
 use mathlib.Core.Bool.{Bool, true, false}
 use mathlib.Core.Logic.{_⊎_, inl, inr}
 use native.Mathlib.Nat.{mul-le-mul-right, le-of-mul-le-mul-right}
@@ -9,7 +9,7 @@ use lib.Dec.{T}
 use lib.IntN.{ℤ}
 use lib.Signed.{_≤ℤ_, leZ}
 use borrow.Author.Differences.{ints, up, down}
-use Rattle.engine.specs.Fraction.{Fraction, den, whole, _≤ᶠ_, leᶠ, ltᶠ}
+use Rattle.engine.specs.Fraction.{Fraction, den, whole, _≤ᶠ_, _≈ᶠ_, leᶠ, ltᶠ}
 
 -- the cases of a test, with its equation
 pub by-test : {P : Type 0} (t : Bool) → (t ≡ true → P) → (t ≡ false → P) → P
@@ -42,6 +42,13 @@ pub ≤ᶠ-trans : {p q r : Fraction} → p ≤ᶠ q → q ≤ᶠ r → p ≤ᶠ
     ≤ᶠ-in p r
     (trans (up (p .num)) (down (p .num)) (p .less) (up (q .num)) (down (q .num)) (q .less) (up (r .num))
     (down (r .num)) (r .less) (≤ᶠ-out h) (≤ᶠ-out k))
+
+-- the same number
+pub ≈ᶠ-trans : {p q r : Fraction} → p ≈ᶠ q → q ≈ᶠ r → p ≈ᶠ r
+≈ᶠ-trans h k = (≤ᶠ-trans (h .0) (k .0), ≤ᶠ-trans (k .1) (h .1))
+
+pub ≈ᶠ-same : {p q : Fraction} → p ≡ q → p ≈ᶠ q
+≈ᶠ-same {p} e = subst (λ r. p ≈ᶠ r) e (≤ᶠ-refl p, ≤ᶠ-refl p)
 
 -- the order of whole numbers
 pub whole-≤ : (a b : ℤ) → a ≤ℤ b → whole a ≤ᶠ whole b

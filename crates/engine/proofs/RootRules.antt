@@ -1,25 +1,24 @@
 -- The root curve keeps the rules.
-use Prim.Native.Nat.{ℕ, suc, _+_, _*_, _≤_, _<_}
-use mathlib.Core.Path.{_≡_, sym, subst, _∙_}
-use mathlib.Core.Bool.{Bool}
+use Prim.Native.Nat.{ℕ, suc, _+_, _-_, _*_, _≤_, _<_}
+use mathlib.Core.Path.{_≡_, sym, subst, subst₂}
+use mathlib.Core.Bool.{false}
 use native.Mathlib.Decide.{decLe, decLt}
 use native.Mathlib.Omega.{arith}
 use lib.IntN.{ℤ, pos, negsuc, natAbs}
 use lib.Signed.{_≤ℤ_}
 use borrow.Author.Differences.{ints}
-use Rattle.engine.specs.Fraction.{Fraction, whole, _≈ᶠ_, leᶠ}
+use Rattle.engine.specs.Fraction.{Fraction, whole, _≤ᶠ_, _≈ᶠ_, leᶠ}
 use Rattle.engine.specs.Coordinates.{Coordinate, hold}
 use Rattle.engine.specs.Curves.{Rules}
-use Rattle.engine.specs.Pieces.{width, height, piecewise, line-exact, line-from, lineE}
+use Rattle.engine.specs.Pieces.{width, height, line-exact, line-from, lineE}
 use Rattle.engine.specs.Root.{rootEntry, rootV, rootE, rootKnot, rootCurve}
 use Rattle.engine.specs.Theorems.{Plain-curves}
-use Rattle.engine.proofs.Orders.{≤ᶠ-refl, ≤ᶠ-trans, same-test}
+use Rattle.engine.proofs.Orders.{≤ᶠ-refl, ≤ᶠ-trans, ≈ᶠ-trans, ≈ᶠ-same, whole-≤, same-test}
 use Rattle.engine.proofs.Sums.{+ᶠ-up, whole-within}
 use Rattle.engine.proofs.Layers.{bare-rules}
-use Rattle.engine.proofs.Piecewise.{piecewise-at, piecewise-none}
-use Rattle.engine.proofs.Joins.{Joined, joined-mono, joined-rise, joined-fits}
+use Rattle.engine.proofs.Joins.{Joined, joined-mono, joined-rise, joined-fits, joined-before, joined-after}
 use Rattle.engine.proofs.Places.{Lawful, wide, inside, x-order}
-use Rattle.engine.proofs.Lines.{line-joined, line-start, line-piece, line-top}
+use Rattle.engine.proofs.Lines.{line-joined, line-on, line-start}
 use Rattle.engine.proofs.Roots.{squares, root-low, root-high, root-mono, root-greatest}
 
 -- ---- the entries as knots of straight pieces
@@ -50,54 +49,51 @@ law = record {
   y-rises = λ i h. let s = entry-mono i (suc i) (omega arith) in omega (arith, ints);
 }
 
+-- each piece is 1 wide, and as high as the step from entry to entry
+width-is : (i : ℕ) → width rootKnot i ≡ 1
+unfolding width
+width-is i = omega (arith, ints)
+
+height-is : (i : ℕ) → height rootKnot i ≡ rootEntry (suc i) - rootEntry i
+unfolding height
+height-is i = let s = entry-mono i (suc i) (omega arith) in omega (arith, ints)
+
 gentle : (i : ℕ) → i < 1023 → height rootKnot i ≤ 256 * width rootKnot i
-unfolding height width
-gentle i h = let s = entry-step i in let t = entry-mono i (suc i) (omega arith) in omega (arith, ints)
+gentle i h = rw (width-is i, height-is i) (omega (arith, entry-step i))
 
 joined : Joined rootKnot 1023 256 (line-from rootKnot 1023)
 joined = line-joined rootKnot 1023 law 256 gentle
 
--- ---- the exact value at a whole number is the entry there
+-- ---- the exact curve
 
--- knot i is at or below q
-abbrev below : ℕ → Fraction → Bool
-below i q = leᶠ (whole (rootKnot i .x)) q
+-- between an entry and the next it is the straight piece
+straight : (i : ℕ) (q : Fraction) → i < 1023 → whole (pos i) ≤ᶠ q → q ≤ᶠ whole (pos (suc i))
+    → rootE q ≈ᶠ line-exact (rootKnot i) 1 (rootEntry (suc i) - rootEntry i) q
+unfolding rootE
+straight i q l h r =
+    subst₂ (λ w d. lineE rootKnot 1023 q ≈ᶠ line-exact (rootKnot i) w d q) (width-is i) (height-is i)
+    (line-on rootKnot 1023 law 256 gentle i q l h r)
 
-abbrev before : Fraction → Fraction
-before q = whole (rootKnot 0 .y)
-
--- from the last entry on
-last : (x : ℤ) → pos 1023 ≤ℤ x → rootE (whole x) ≡ whole (pos (rootEntry 1023))
+-- below the first entry, and from the last on, it is flat
+flat-below : (q : Fraction) → leᶠ (whole (pos 0)) q ≡ false → rootE q ≡ whole (pos (rootEntry 0))
 unfolding rootE lineE
-last x h =
-    piecewise-at below before (line-from rootKnot 1023) (whole x) 1023
-    (same-test (pos 1023) x ∙ sym (omega (arith, ints))) 1023 (omega arith) (λ j a b. absurd (omega arith))
-    ∙ line-top rootKnot 1023 law (whole x)
+flat-below q e = joined-before rootKnot 1023 256 (line-from rootKnot 1023) joined q e
 
--- below the first
-first : (n : ℕ) → rootE (whole (negsuc n)) ≡ whole (pos (rootEntry 0))
+flat-above : (q : Fraction) → whole (pos 1023) ≤ᶠ q → rootE q ≡ whole (pos (rootEntry 1023))
 unfolding rootE lineE
-first n =
-    piecewise-none below before (line-from rootKnot 1023) (whole (negsuc n)) 1023 (λ j l. same-test (pos j) (negsuc n))
+flat-above q h = joined-after rootKnot 1023 256 (line-from rootKnot 1023) joined q h
+
+-- ---- at a whole number it is the entry there
 
 -- at an entry before the last
-between : (n : ℕ) → n < 1023 → rootE (whole (pos n)) ≈ᶠ whole (pos (rootEntry n))
-unfolding rootE lineE
-between n h =
-    subst (λ e. e ≈ᶠ whole (pos (rootEntry n))) (sym here)
+at-entry : (n : ℕ) → n < 1023 → rootE (whole (pos n)) ≈ᶠ whole (pos (rootEntry n))
+unfolding rootE
+at-entry n h =
+    let start = ≤ᶠ-refl (whole (pos n)) in
+    let end = x-order rootKnot 1023 law n h in
+    ≈ᶠ-trans (line-on rootKnot 1023 law 256 gentle n (whole (pos n)) h start end)
     (line-start (rootKnot n) (width rootKnot n) (height rootKnot n) (wide rootKnot 1023 law n h)
-    (inside rootKnot 1023 law n (whole (pos n)) h (≤ᶠ-refl (whole (pos n))) (x-order rootKnot 1023 law n h)))
-  where
-    here : piecewise below before (line-from rootKnot 1023) 1023 (whole (pos n))
-        ≡ line-exact (rootKnot n) (width rootKnot n) (height rootKnot n) (whole (pos n))
-    here =
-        piecewise-at below before (line-from rootKnot 1023) (whole (pos n)) n
-        (same-test (pos n) (pos n) ∙ sym (omega (arith, ints))) 1023 (omega arith)
-        (λ j a b. same-test (pos j) (pos n) ∙ sym (omega (arith, ints)))
-        ∙ line-piece rootKnot 1023 law n (whole (pos n)) h
-
-equal : {p q : Fraction} → p ≡ q → p ≈ᶠ q
-equal {p} {q} e = subst (λ r. p ≈ᶠ r) e (≤ᶠ-refl p, ≤ᶠ-refl p)
+    (inside rootKnot 1023 law n (whole (pos n)) h start end))
 
 -- x held to 0..1023
 slot-inside : (n : ℕ) → n < 1023 → natAbs (hold (pos 0) (pos 1023) (pos n)) ≡ n
@@ -107,11 +103,11 @@ slot-last : (n : ℕ) → 1023 ≤ n → natAbs (hold (pos 0) (pos 1023) (pos n)
 slot-last n h = grind (arith, ints)
 
 at-whole : (x : ℤ) → rootE (whole x) ≈ᶠ whole (rootV x)
-at-whole (negsuc n) = equal (first n)
+at-whole (negsuc n) = ≈ᶠ-same (flat-below (whole (negsuc n)) (same-test (pos 0) (negsuc n)))
 at-whole (pos n) = elim (decLt n 1023) [
-  | yes h ↦ subst (λ i. rootE (whole (pos n)) ≈ᶠ whole (pos (rootEntry i))) (sym (slot-inside n h)) (between n h)
+  | yes h ↦ subst (λ i. rootE (whole (pos n)) ≈ᶠ whole (pos (rootEntry i))) (sym (slot-inside n h)) (at-entry n h)
   | no m ↦ subst (λ i. rootE (whole (pos n)) ≈ᶠ whole (pos (rootEntry i))) (sym (slot-last n (omega arith)))
-      (equal (last (pos n) (omega (arith, ints))))
+      (≈ᶠ-same (flat-above (whole (pos n)) (whole-≤ (pos 1023) (pos n) (omega (arith, ints)))))
 ]
 
 -- ---- the rules
@@ -145,4 +141,12 @@ root-rules = record {
 }
 
 pub plain-curves : Plain-curves
-plain-curves = record { bare-keeps = bare-rules; root-keeps = root-rules; entries = λ i. root-greatest (65536 * i); rising = entry-mono }
+plain-curves = record {
+  bare-keeps = bare-rules;
+  root-keeps = root-rules;
+  entries = λ i. root-greatest (65536 * i);
+  rising = entry-mono;
+  straight = straight;
+  flat-below = flat-below;
+  flat-above = flat-above;
+}

@@ -1,14 +1,16 @@
 -- What is proved of the definitions, as statements that contracts name.
-use Prim.Native.Nat.{ℕ, _*_, _≤_, _<_}
+use Prim.Native.Nat.{ℕ, suc, _-_, _*_, _≤_, _<_}
 use mathlib.Core.Path.{_≡_}
+use mathlib.Core.Bool.{false}
 use mathlib.Core.Logic.{_⊎_}
 use lib.IntN.{ℤ, pos, negsuc, _+ℤ_, _*ℤ_}
 use lib.Signed.{_≤ℤ_}
-use Rattle.engine.specs.Fraction.{Fraction, whole, _÷_, _+ᶠ_, _-ᶠ_, _*ᶠ_, _/ᶠ_, _≤ᶠ_, _≈ᶠ_}
+use Rattle.engine.specs.Fraction.{Fraction, whole, _÷_, _+ᶠ_, _-ᶠ_, _*ᶠ_, _/ᶠ_, _≤ᶠ_, _≈ᶠ_, leᶠ}
 use Rattle.engine.specs.Fraction.{floorᶠ, ceilᶠ, roundᶠ, Greatest-not-above, Least-not-below}
 use Rattle.engine.specs.Coordinates.{Coordinate}
 use Rattle.engine.specs.Curves.{Meaning, Rules, bare, chain, offset, clamp}
-use Rattle.engine.specs.Root.{rootEntry, rootV, rootCurve, Greatest-root}
+use Rattle.engine.specs.Pieces.{line-exact}
+use Rattle.engine.specs.Root.{rootEntry, rootKnot, rootV, rootE, rootCurve, Greatest-root}
 
 -- fractions are ordered and computed with as the numbers that they stand for
 pub record Fraction-rules : Type 0 where
@@ -30,12 +32,17 @@ pub record Rounding-rules : Type 0 where
   pub up : (q : Fraction) → Least-not-below q (ceilᶠ q)
   pub nearest : (q : Fraction) → Greatest-not-above (q +ᶠ pos 1 ÷ 2) (roundᶠ q)
 
--- the plain curves keep the rules; each entry of root is the root that it is called, and no entry is below an earlier one
+-- The plain curves keep the rules. Each entry of root is the root that it is called, and no entry is below an earlier
+-- one; the exact curve is the straight piece between neighbouring entries, and flat below the first and from the last on.
 pub record Plain-curves : Type 0 where
   pub bare-keeps : Rules bare
   pub root-keeps : Rules rootCurve
   pub entries : (i : ℕ) → Greatest-root (65536 * i) (rootEntry i)
   pub rising : (i j : ℕ) → i ≤ j → rootEntry i ≤ rootEntry j
+  pub straight : (i : ℕ) (q : Fraction) → i < 1023 → whole (pos i) ≤ᶠ q → q ≤ᶠ whole (pos (suc i))
+      → rootE q ≈ᶠ line-exact (rootKnot i) 1 (rootEntry (suc i) - rootEntry i) q
+  pub flat-below : (q : Fraction) → leᶠ (whole (pos 0)) q ≡ false → rootE q ≡ whole (pos (rootEntry 0))
+  pub flat-above : (q : Fraction) → whole (pos 1023) ≤ᶠ q → rootE q ≡ whole (pos (rootEntry 1023))
 
 -- every layer over lawful curves is a lawful curve
 pub record Layers-keep : Type 0 where

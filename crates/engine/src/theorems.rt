@@ -17,8 +17,8 @@ pub fn layers_keep_the_rules()
     ensures { λ _. ⌜ Layers-keep ⌝ }
 {}
 
-/// The bare curve and the root curve keep the rules, and each entry of the root curve is the greatest whole number
-/// whose square is at most 65536 times its index.
+/// The bare curve and the root curve keep the rules. Each entry of the root curve is the greatest whole number whose square
+/// is at most 65536 times its index, and its exact curve is the straight line between neighbouring entries, flat beyond.
 pub fn plain_curves_keep_the_rules()
     ensures { λ _. ⌜ Plain-curves ⌝ }
 {}
