@@ -41,8 +41,8 @@ def figures():
     pile = Clamp(Offset(Chain(Clamp(root, 256, 8000), Offset(Bare(), -40)), -300), -20, 7600)
     equal([value(pile, x) for x in (-9000, 41, 42, 900, 1063)], [-20, -20, 62, 7207, 7600], "a pile of five layers")
     equal((pile.S, pile.R), (256, 0), "rise and radius of the pile")
-    settings = [(0, 1, 2, 3, 1), (1, 0, 9000, 8, 0), (0, 9000, 1, 0, 1), (0, 1, 9000, 0, 0), (0, 1, 3, 2, 0), (0, 1, 2, 3, 0),
-                (0, 1, 2, 3, 16384)]
+    settings = [(0, 1, 2, 3, 1), (1, 0, 9000, 8, 0), (0, 9000, 1, 0, 1), (0, 1, 9000, 0, 0), (0, 1, 3, 2, 0),
+                (0, 1, 2, 3, 0), (0, 1, 2, 3, 16384)]
     equal([tabulate.refusal(0, 0, *s) for s in settings], [0, 11, 1, 1, 11, 11, 11], "refused settings")
     equal(tabulate.tabulate(0, 0, 0, 500, 0, 5, 2), ([(0, 0), (2, 362), (4, 500)], 256, 0), "a small table")
 

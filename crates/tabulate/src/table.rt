@@ -12,8 +12,8 @@ pub struct Row {
     pub value: i32,
 }
 
-/// A table of a curve: a row for the first reading of a span and for every step-th after it. The table holds no rows; each
-/// is worked out when it is asked for.
+/// A table of a curve: a row for the first reading of a span and for every step-th after it. The table holds no rows;
+/// each is worked out when it is asked for.
 #[derive(Drop)]
 pub struct Table<C> {
     curve: C,
