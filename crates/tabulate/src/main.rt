@@ -11,6 +11,8 @@ use engine::layer::OffsetCurve;
 use engine::root::RootCurve;
 use nozzle::Flow;
 use nozzle::Settings;
+use nozzle::flow_bounds;
+use nozzle::flow_row;
 use nozzle::tabulate;
 use std::error::AnyError;
 use std::io;
@@ -68,14 +70,13 @@ fn next_number(words: &mut SplitWhitespace<'_>) -> Result<i32, AnyError> {
 fn write_table(rt: &LibcRuntime, table: &Table<Flow>) -> Result<(), AnyError> {
     let count = table.len();
     for i in 0..count {
-        if let Some(row) = table.row(i) {
+        if let Some(row) = flow_row(table, i) {
             let reading = row.reading;
             let flow = row.value;
             println!(rt, "{reading} {flow}")?;
         }
     }
-    let rise = table.rise();
-    let radius = table.radius();
+    let (rise, radius) = flow_bounds(table);
     println!(rt, "{count} readings, rise {rise}, radius {radius}")?;
     Ok(())
 }

@@ -1,7 +1,9 @@
 //! A nozzle row: its settings, its curve and the table of its flow.
 
+ghost use mathlib.Core.Path.{_≡_};
 ghost use Rattle.engine.specs.Refusals.{Outcome, told};
-ghost use Rattle.tabulate.specs.Flow.{Flow-law, Flow-table, Piled, settingsRefusal};
+ghost use Rattle.tabulate.specs.Flow.{Flow-law, Flow-table, Piled, flowOf, flowRow, settingsRefusal};
+use super::table::Row;
 use super::table::Table;
 use engine::band::Band;
 use engine::curve::Bare;
@@ -49,6 +51,20 @@ pub fn tabulate(s: Settings) -> Result<Table<Flow>, Refusal>
     let limit = Band::new(s.low, s.high)?;
     let span = Band::new(s.first, s.last)?;
     Table::new(flow_curve(s.zero, s.trim, limit), span, s.step)
+}
+
+/// Row i of a flow table, counted from 0: a reading and its flow.
+pub fn flow_row(table: &Table<Flow>, i: u32) -> Option<Row>
+    ensures { λ r. ⌜ r ≡ flowRow (now (table .entry)) i ⌝ }
+{
+    table.row(i)
+}
+
+/// The rise and the radius that a flow table tells.
+pub fn flow_bounds(table: &Table<Flow>) -> (u16, u16)
+    ensures { λ r. ⌜ r .0 ≡ flowOf (now (table .entry) .curve) .S ⌝ ∗ ⌜ r .1 ≡ flowOf (now (table .entry) .curve) .R ⌝ }
+{
+    (table.rise(), table.radius())
 }
 
 // The curve of a nozzle row.

@@ -1,10 +1,11 @@
 //! Worked figures, which `tests/oracle/` has too.
 
+use crate::nozzle::Flow;
 use crate::nozzle::Settings;
+use crate::nozzle::flow_bounds;
+use crate::nozzle::flow_row;
 use crate::nozzle::tabulate;
-use crate::table::Row;
-use crate::table::RowDebug;
-use crate::table::RowPartialEq;
+use crate::table::Table;
 use engine::curve::BareCurve;
 use engine::layer::ChainCurve;
 use engine::layer::ClampCurve;
@@ -34,6 +35,12 @@ fn refusal(s: Settings) -> u8 {
     }
 }
 
+// Row i as a pair.
+fn row(table: &Table<Flow>, i: u32) -> Option<(i32, i32)> {
+    let row = flow_row(table, i)?;
+    Some((row.reading, row.value))
+}
+
 #[test]
 fn settings_are_refused_in_order() -> Result<(), Fail> {
     check_eq(refusal(plain(0, 1, 2, 3, 1)), 0)?;
@@ -49,27 +56,9 @@ fn settings_are_refused_in_order() -> Result<(), Fail> {
 fn a_small_table() -> Result<(), Fail> {
     let table = tabulate(plain(0, 500, 0, 5, 2))?;
     check_eq(table.len(), 3)?;
-    check_eq(
-        table.row(0),
-        Some(Row {
-            reading: 0,
-            value: 0,
-        }),
-    )?;
-    check_eq(
-        table.row(1),
-        Some(Row {
-            reading: 2,
-            value: 362,
-        }),
-    )?;
-    check_eq(
-        table.row(2),
-        Some(Row {
-            reading: 4,
-            value: 500,
-        }),
-    )?;
-    check_eq(table.row(3), None)?;
-    check_eq((table.rise(), table.radius()), (256, 0))
+    check_eq(row(&table, 0), Some((0, 0)))?;
+    check_eq(row(&table, 1), Some((2, 362)))?;
+    check_eq(row(&table, 2), Some((4, 500)))?;
+    check_eq(row(&table, 3), None)?;
+    check_eq(flow_bounds(&table), (256, 0))
 }
