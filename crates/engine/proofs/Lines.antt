@@ -10,7 +10,7 @@ use lib.Signed.{_≤ℤ_}
 use borrow.Author.Differences.{ints, up, down}
 use borrow.Author.Tests.{eq-eqb, ne-eqb}
 use Rattle.engine.specs.Fraction.{Fraction, den, whole, _+ᶠ_, _-ᶠ_, _*ᶠ_, _/ᶠ_, _≤ᶠ_, _≈ᶠ_, leᶠ}
-use Rattle.engine.specs.Pieces.{Knot, width, height, piecewise, line-exact, line-from, lineE}
+use Rattle.engine.specs.Pieces.{Knot, width, height, piecewise, line-exact, line-from, line-through}
 use Rattle.engine.proofs.Orders.{by-test, ≤ᶠ-refl, ≤ᶠ-trans, whole-≤, whole-≤-out, leᶠ-true}
 use Rattle.engine.proofs.Terms.{Is, Is-whole, Is-*, Is-/, Is-≤, val, Val-≤-out}
 use Rattle.engine.proofs.Sums.{+ᶠ-mono, shift-whole}
@@ -148,8 +148,8 @@ module _ (k : ℕ → Knot) (top : ℕ) (law : Lawful k top) where
 
     -- between two knots the curve is the straight piece
     pub line-on : (i : ℕ) (q : Fraction) → i < top → whole (k i .x) ≤ᶠ q → q ≤ᶠ whole (k (suc i) .x)
-        → lineE k top q ≈ᶠ line-exact (k i) (width k i) (height k i) q
-    unfolding lineE
+        → line-through k top q ≈ᶠ line-exact (k i) (width k i) (height k i) q
+    unfolding line-through
     line-on i q l h r =
         subst (λ v. piecewise (λ i q. leᶠ (whole (k i .x)) q) (λ q. whole (k 0 .y)) (line-from k top) top q ≈ᶠ v)
         (line-piece i q l) (joined-on k top S (line-from k top) line-joined strict i q l h r)

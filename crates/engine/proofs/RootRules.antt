@@ -10,8 +10,8 @@ use borrow.Author.Differences.{ints}
 use Rattle.engine.specs.Fraction.{Fraction, whole, _≤ᶠ_, _≈ᶠ_, leᶠ}
 use Rattle.engine.specs.Coordinates.{Coordinate, hold}
 use Rattle.engine.specs.Curves.{Rules}
-use Rattle.engine.specs.Pieces.{width, height, line-exact, line-from, lineE}
-use Rattle.engine.specs.Root.{rootEntry, rootV, rootE, rootKnot, rootCurve}
+use Rattle.engine.specs.Pieces.{width, height, line-exact, line-from, line-through}
+use Rattle.engine.specs.Root.{root-entry, root-value, root-exact, root-knot, root-curve}
 use Rattle.engine.specs.Theorems.{Plain-curves}
 use Rattle.engine.proofs.Orders.{≤ᶠ-refl, ≤ᶠ-trans, ≈ᶠ-trans, ≈ᶠ-same, whole-≤, same-test}
 use Rattle.engine.proofs.Sums.{+ᶠ-up, whole-within}
@@ -23,25 +23,25 @@ use Rattle.engine.proofs.Roots.{squares, root-low, root-high, root-mono, root-
 
 -- ---- the entries as knots of straight pieces
 
-entry-mono : (i j : ℕ) → i ≤ j → rootEntry i ≤ rootEntry j
+entry-mono : (i j : ℕ) → i ≤ j → root-entry i ≤ root-entry j
 entry-mono i j h = root-mono (65536 * i) (65536 * j) (omega arith)
 
-entry-small : (i : ℕ) → i ≤ 1023 → rootEntry i ≤ 8191
+entry-small : (i : ℕ) → i ≤ 1023 → root-entry i ≤ 8191
 entry-small i h =
-    elim (decLe (rootEntry i) 8191)
-    [ yes l ↦ l | no m ↦ absurd (omega (arith, root-low (65536 * i), squares 8192 (rootEntry i) (omega arith))) ]
+    elim (decLe (root-entry i) 8191)
+    [ yes l ↦ l | no m ↦ absurd (omega (arith, root-low (65536 * i), squares 8192 (root-entry i) (omega arith))) ]
 
 -- the square of entry i + 257 would pass 65536 × (i + 1)
-entry-step : (i : ℕ) → rootEntry (suc i) ≤ rootEntry i + 256
+entry-step : (i : ℕ) → root-entry (suc i) ≤ root-entry i + 256
 entry-step i =
-    elim (decLe (rootEntry (suc i)) (rootEntry i + 256)) [
+    elim (decLe (root-entry (suc i)) (root-entry i + 256)) [
       | yes l ↦ l
       | no m ↦ absurd
           (omega
-          (arith, root-low (65536 * suc i), root-high (65536 * i), squares (rootEntry i + 257) (rootEntry (suc i)) (omega arith)))
+          (arith, root-low (65536 * suc i), root-high (65536 * i), squares (root-entry i + 257) (root-entry (suc i)) (omega arith)))
     ]
 
-law : Lawful rootKnot 1023
+law : Lawful root-knot 1023
 law = record {
   x-fits = λ i h. record { low = omega (arith, ints); high = omega (arith, ints) };
   y-fits = λ i h. let s = entry-small i h in record { low = omega (arith, ints); high = omega (arith, ints) };
@@ -50,50 +50,50 @@ law = record {
 }
 
 -- each piece is 1 wide, and as high as the step from entry to entry
-width-is : (i : ℕ) → width rootKnot i ≡ 1
+width-is : (i : ℕ) → width root-knot i ≡ 1
 unfolding width
 width-is i = omega (arith, ints)
 
-height-is : (i : ℕ) → height rootKnot i ≡ rootEntry (suc i) - rootEntry i
+height-is : (i : ℕ) → height root-knot i ≡ root-entry (suc i) - root-entry i
 unfolding height
 height-is i = let s = entry-mono i (suc i) (omega arith) in omega (arith, ints)
 
-gentle : (i : ℕ) → i < 1023 → height rootKnot i ≤ 256 * width rootKnot i
+gentle : (i : ℕ) → i < 1023 → height root-knot i ≤ 256 * width root-knot i
 gentle i h = rw (width-is i, height-is i) (omega (arith, entry-step i))
 
-joined : Joined rootKnot 1023 256 (line-from rootKnot 1023)
-joined = line-joined rootKnot 1023 law 256 gentle
+joined : Joined root-knot 1023 256 (line-from root-knot 1023)
+joined = line-joined root-knot 1023 law 256 gentle
 
 -- ---- the exact curve
 
 -- between an entry and the next it is the straight piece
 straight : (i : ℕ) (q : Fraction) → i < 1023 → whole (pos i) ≤ᶠ q → q ≤ᶠ whole (pos (suc i))
-    → rootE q ≈ᶠ line-exact (rootKnot i) 1 (rootEntry (suc i) - rootEntry i) q
-unfolding rootE
+    → root-exact q ≈ᶠ line-exact (root-knot i) 1 (root-entry (suc i) - root-entry i) q
+unfolding root-exact
 straight i q l h r =
-    subst₂ (λ w d. lineE rootKnot 1023 q ≈ᶠ line-exact (rootKnot i) w d q) (width-is i) (height-is i)
-    (line-on rootKnot 1023 law 256 gentle i q l h r)
+    subst₂ (λ w d. line-through root-knot 1023 q ≈ᶠ line-exact (root-knot i) w d q) (width-is i) (height-is i)
+    (line-on root-knot 1023 law 256 gentle i q l h r)
 
 -- below the first entry, and from the last on, it is flat
-flat-below : (q : Fraction) → leᶠ (whole (pos 0)) q ≡ false → rootE q ≡ whole (pos (rootEntry 0))
-unfolding rootE lineE
-flat-below q e = joined-before rootKnot 1023 256 (line-from rootKnot 1023) joined q e
+flat-below : (q : Fraction) → leᶠ (whole (pos 0)) q ≡ false → root-exact q ≡ whole (pos (root-entry 0))
+unfolding root-exact line-through
+flat-below q e = joined-before root-knot 1023 256 (line-from root-knot 1023) joined q e
 
-flat-above : (q : Fraction) → whole (pos 1023) ≤ᶠ q → rootE q ≡ whole (pos (rootEntry 1023))
-unfolding rootE lineE
-flat-above q h = joined-after rootKnot 1023 256 (line-from rootKnot 1023) joined q h
+flat-above : (q : Fraction) → whole (pos 1023) ≤ᶠ q → root-exact q ≡ whole (pos (root-entry 1023))
+unfolding root-exact line-through
+flat-above q h = joined-after root-knot 1023 256 (line-from root-knot 1023) joined q h
 
 -- ---- at a whole number it is the entry there
 
 -- at an entry before the last
-at-entry : (n : ℕ) → n < 1023 → rootE (whole (pos n)) ≈ᶠ whole (pos (rootEntry n))
-unfolding rootE
+at-entry : (n : ℕ) → n < 1023 → root-exact (whole (pos n)) ≈ᶠ whole (pos (root-entry n))
+unfolding root-exact
 at-entry n h =
     let start = ≤ᶠ-refl (whole (pos n)) in
-    let end = x-order rootKnot 1023 law n h in
-    ≈ᶠ-trans (line-on rootKnot 1023 law 256 gentle n (whole (pos n)) h start end)
-    (line-start (rootKnot n) (width rootKnot n) (height rootKnot n) (wide rootKnot 1023 law n h)
-    (inside rootKnot 1023 law n (whole (pos n)) h start end))
+    let end = x-order root-knot 1023 law n h in
+    ≈ᶠ-trans (line-on root-knot 1023 law 256 gentle n (whole (pos n)) h start end)
+    (line-start (root-knot n) (width root-knot n) (height root-knot n) (wide root-knot 1023 law n h)
+    (inside root-knot 1023 law n (whole (pos n)) h start end))
 
 -- x held to 0..1023
 slot-inside : (n : ℕ) → n < 1023 → natAbs (hold (pos 0) (pos 1023) (pos n)) ≡ n
@@ -102,11 +102,11 @@ slot-inside n h = grind (arith, ints)
 slot-last : (n : ℕ) → 1023 ≤ n → natAbs (hold (pos 0) (pos 1023) (pos n)) ≡ 1023
 slot-last n h = grind (arith, ints)
 
-at-whole : (x : ℤ) → rootE (whole x) ≈ᶠ whole (rootV x)
+at-whole : (x : ℤ) → root-exact (whole x) ≈ᶠ whole (root-value x)
 at-whole (negsuc n) = ≈ᶠ-same (flat-below (whole (negsuc n)) (same-test (pos 0) (negsuc n)))
 at-whole (pos n) = elim (decLt n 1023) [
-  | yes h ↦ subst (λ i. rootE (whole (pos n)) ≈ᶠ whole (pos (rootEntry i))) (sym (slot-inside n h)) (at-entry n h)
-  | no m ↦ subst (λ i. rootE (whole (pos n)) ≈ᶠ whole (pos (rootEntry i))) (sym (slot-last n (omega arith)))
+  | yes h ↦ subst (λ i. root-exact (whole (pos n)) ≈ᶠ whole (pos (root-entry i))) (sym (slot-inside n h)) (at-entry n h)
+  | no m ↦ subst (λ i. root-exact (whole (pos n)) ≈ᶠ whole (pos (root-entry i))) (sym (slot-last n (omega arith)))
       (≈ᶠ-same (flat-above (whole (pos n)) (whole-≤ (pos 1023) (pos n) (omega (arith, ints)))))
 ]
 
@@ -124,19 +124,19 @@ pos-mono m n h = omega (arith, ints)
 small : (n : ℕ) → n ≤ 8191 → Coordinate (pos n)
 small n h = record { low = omega (arith, ints); high = omega (arith, ints) }
 
-pub root-rules : Rules rootCurve
-unfolding rootE lineE
+pub root-rules : Rules root-curve
+unfolding root-exact line-through
 root-rules = record {
   rise-fits = omega arith;
   radius-fits = omega arith;
   value-fits = λ x _. small _ (entry-small (natAbs (hold (pos 0) (pos 1023) x)) (slot-small x));
   value-mono = λ x y _ _ h. pos-mono _ _ (entry-mono _ _ (slot-mono x y h));
   exact-fits =
-      λ q _. joined-fits rootKnot 1023 256 (line-from rootKnot 1023) joined
-      (λ i l. whole-within (rootKnot i .y) (law .y-fits i l)) q;
-  exact-mono = λ p q _ _ h. joined-mono rootKnot 1023 256 (line-from rootKnot 1023) joined p q h;
-  exact-rise = λ n p q _ _ h r. joined-rise rootKnot 1023 256 (line-from rootKnot 1023) joined n p q h r;
-  value-low = λ x _. ≤ᶠ-trans (at-whole x .0) (+ᶠ-up (whole (rootV x)) 0);
+      λ q _. joined-fits root-knot 1023 256 (line-from root-knot 1023) joined
+      (λ i l. whole-within (root-knot i .y) (law .y-fits i l)) q;
+  exact-mono = λ p q _ _ h. joined-mono root-knot 1023 256 (line-from root-knot 1023) joined p q h;
+  exact-rise = λ n p q _ _ h r. joined-rise root-knot 1023 256 (line-from root-knot 1023) joined n p q h r;
+  value-low = λ x _. ≤ᶠ-trans (at-whole x .0) (+ᶠ-up (whole (root-value x)) 0);
   value-high = λ x _. ≤ᶠ-trans (at-whole x .1) (+ᶠ-up _ 0);
 }
 

@@ -10,7 +10,7 @@ use lib.Dec.{leb, ltb}
 use lib.ListN.{length, getD}
 use borrow.Author.Tests.{leb-true, leb-false, ltb-true}
 use Rattle.std.proofs.shelf.Tests.{and-parts}
-use Rattle.engine.specs.Root.{rootUpTo, root, rootEntry, Greatest-root, Root-table}
+use Rattle.engine.specs.Root.{root-up-to, root, root-entry, Greatest-root, Root-table}
 use Rattle.engine.proofs.Orders.{by-test}
 
 -- ---- the root of a number
@@ -21,13 +21,13 @@ both p q = omega arith
 pub squares : (a b : ℕ) → a ≤ b → a * a ≤ b * b
 squares a b h = mul-le-mul h h
 
-low : (n s : ℕ) → rootUpTo n s * rootUpTo n s ≤ n
-unfolding rootUpTo
+low : (n s : ℕ) → root-up-to n s * root-up-to n s ≤ n
+unfolding root-up-to
 low n zero = omega arith
 low n (suc s) = by-test (leb (suc s * suc s) n) (λ e. rw e (leb-true (suc s * suc s) n e)) (λ e. rw e (low n s))
 
-high : (n s : ℕ) → n < suc s * suc s → n < suc (rootUpTo n s) * suc (rootUpTo n s)
-unfolding rootUpTo
+high : (n s : ℕ) → n < suc s * suc s → n < suc (root-up-to n s) * suc (root-up-to n s)
+unfolding root-up-to
 high n zero h = h
 high n (suc s) h =
     by-test (leb (suc s * suc s) n) (λ e. rw e h) (λ e. rw e (high n s (leb-false (suc s * suc s) n e)))
@@ -124,5 +124,5 @@ table-holds xs long t = record {
   rising = λ i j l h. carried-rising xs 0 0 t i j l (omega arith);
 }
 
-pub entry-is : (xs : List ℕ) → Root-table xs → (i : ℕ) → i < 1024 → getD xs i 0 ≡ rootEntry i
+pub entry-is : (xs : List ℕ) → Root-table xs → (i : ℕ) → i < 1024 → getD xs i 0 ≡ root-entry i
 entry-is xs r i h = root-one (65536 * i) (getD xs i 0) (r .roots i h)

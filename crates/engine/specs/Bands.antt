@@ -10,16 +10,16 @@ use Rattle.engine.specs.Refusals.{Told, alone, not-coordinate, out-of-limits}
 use Rattle.engine.specs.declared.band.Band.{Band}
 
 -- why a and b make no band: one of them is no coordinate; then, they are reversed
-abbrev pub bandRefusal : ℤ → ℤ → Option Told
-bandRefusal a b =
+abbrev pub band-refusal : ℤ → ℤ → Option Told
+band-refusal a b =
     cond (not (coordinate a && coordinate b)) (Some (alone not-coordinate))
     (cond (ltZ b a) (Some (alone out-of-limits))
     None)
 
 -- the band from a to b
-abbrev pub IsBand : ℤ → ℤ → Band → Type 0
-IsBand a b r = (r .lo ≡ a) × (r .hi ≡ b)
+abbrev pub Is-band : ℤ → ℤ → Band → Type 0
+Is-band a b r = (r .lo ≡ a) × (r .hi ≡ b)
 
 -- x is a reading of the band a..b
-abbrev pub inBand : ℤ → ℤ → ℤ → Bool
-inBand a b x = leZ a x && leZ x b
+abbrev pub in-band : ℤ → ℤ → ℤ → Bool
+in-band a b x = leZ a x && leZ x b

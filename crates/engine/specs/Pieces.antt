@@ -32,5 +32,5 @@ unfoldable pub line-from : (ℕ → Knot) → (top i : ℕ) → Fraction → Fra
 line-from k top i q = cond (eqb i top) (whole (k i .y)) (line-exact (k i) (width k i) (height k i) q)
 
 -- straight lines through the knots, flat beyond the first and the last
-unfoldable pub lineE : (ℕ → Knot) → ℕ → Fraction → Fraction
-lineE k top = piecewise (λ i q. leᶠ (whole (k i .x)) q) (λ q. whole (k 0 .y)) (line-from k top) top
+unfoldable pub line-through : (ℕ → Knot) → ℕ → Fraction → Fraction
+line-through k top = piecewise (λ i q. leᶠ (whole (k i .x)) q) (λ q. whole (k 0 .y)) (line-from k top) top

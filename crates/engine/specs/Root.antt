@@ -9,7 +9,7 @@ use lib.ListN.{length, getD}
 use Rattle.engine.specs.Fraction.{Fraction}
 use Rattle.engine.specs.Coordinates.{hold}
 use Rattle.engine.specs.Curves.{Meaning, meaning}
-use Rattle.engine.specs.Pieces.{Knot, lineE}
+use Rattle.engine.specs.Pieces.{Knot, line-through}
 
 -- s is the greatest whole number whose square is at most n
 pub record Greatest-root (n s : ℕ) : Type 0 where
@@ -17,32 +17,32 @@ pub record Greatest-root (n s : ℕ) : Type 0 where
   pub greatest : (t : ℕ) → t * t ≤ n → t ≤ s
 
 -- the greatest of 0..s whose square is at most n
-unfoldable pub rootUpTo : (n s : ℕ) → ℕ
-rootUpTo n zero = zero
-rootUpTo n (suc s) = cond (leb (suc s * suc s) n) (suc s) (rootUpTo n s)
+unfoldable pub root-up-to : (n s : ℕ) → ℕ
+root-up-to n zero = zero
+root-up-to n (suc s) = cond (leb (suc s * suc s) n) (suc s) (root-up-to n s)
 
 -- the greatest whole number whose square is at most n
 unfoldable pub root : ℕ → ℕ
-root n = rootUpTo n n
+root n = root-up-to n n
 
 -- entry i: the greatest whole number whose square is at most 65536 × i
-abbrev pub rootEntry : ℕ → ℕ
-rootEntry i = root (65536 * i)
+abbrev pub root-entry : ℕ → ℕ
+root-entry i = root (65536 * i)
 
 -- the value: the entry at x held to 0..1023
-abbrev pub rootV : ℤ → ℤ
-rootV x = pos (rootEntry (natAbs (hold (pos 0) (pos 1023) x)))
+abbrev pub root-value : ℤ → ℤ
+root-value x = pos (root-entry (natAbs (hold (pos 0) (pos 1023) x)))
 
 -- the entries as knots
-abbrev pub rootKnot : ℕ → Knot
-rootKnot i = record { x = pos i; y = pos (rootEntry i) }
+abbrev pub root-knot : ℕ → Knot
+root-knot i = record { x = pos i; y = pos (root-entry i) }
 
 -- the exact value: the straight line between neighbouring entries, flat beyond
-unfoldable pub rootE : Fraction → Fraction
-rootE = lineE rootKnot 1023
+unfoldable pub root-exact : Fraction → Fraction
+root-exact = line-through root-knot 1023
 
-abbrev pub rootCurve : Meaning
-rootCurve = meaning rootV rootE 256 0
+abbrev pub root-curve : Meaning
+root-curve = meaning root-value root-exact 256 0
 
 -- what is proved of the constant table in the code
 pub record Root-table (xs : List ℕ) : Type 0 where

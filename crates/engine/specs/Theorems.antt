@@ -10,7 +10,7 @@ use Rattle.engine.specs.Fraction.{floorᶠ, ceilᶠ, roundᶠ, Greatest-not-ab
 use Rattle.engine.specs.Coordinates.{Coordinate}
 use Rattle.engine.specs.Curves.{Meaning, Rules, bare, chain, offset, clamp}
 use Rattle.engine.specs.Pieces.{line-exact}
-use Rattle.engine.specs.Root.{rootEntry, rootKnot, rootV, rootE, rootCurve, Greatest-root}
+use Rattle.engine.specs.Root.{root-entry, root-knot, root-value, root-exact, root-curve, Greatest-root}
 
 -- fractions are ordered and computed with as the numbers that they stand for
 pub record Fraction-rules : Type 0 where
@@ -36,13 +36,13 @@ pub record Rounding-rules : Type 0 where
 -- one; the exact curve is the straight piece between neighbouring entries, and flat below the first and from the last on.
 pub record Plain-curves : Type 0 where
   pub bare-keeps : Rules bare
-  pub root-keeps : Rules rootCurve
-  pub entries : (i : ℕ) → Greatest-root (65536 * i) (rootEntry i)
-  pub rising : (i j : ℕ) → i ≤ j → rootEntry i ≤ rootEntry j
+  pub root-keeps : Rules root-curve
+  pub entries : (i : ℕ) → Greatest-root (65536 * i) (root-entry i)
+  pub rising : (i j : ℕ) → i ≤ j → root-entry i ≤ root-entry j
   pub straight : (i : ℕ) (q : Fraction) → i < 1023 → whole (pos i) ≤ᶠ q → q ≤ᶠ whole (pos (suc i))
-      → rootE q ≈ᶠ line-exact (rootKnot i) 1 (rootEntry (suc i) - rootEntry i) q
-  pub flat-below : (q : Fraction) → leᶠ (whole (pos 0)) q ≡ false → rootE q ≡ whole (pos (rootEntry 0))
-  pub flat-above : (q : Fraction) → whole (pos 1023) ≤ᶠ q → rootE q ≡ whole (pos (rootEntry 1023))
+      → root-exact q ≈ᶠ line-exact (root-knot i) 1 (root-entry (suc i) - root-entry i) q
+  pub flat-below : (q : Fraction) → leᶠ (whole (pos 0)) q ≡ false → root-exact q ≡ whole (pos (root-entry 0))
+  pub flat-above : (q : Fraction) → whole (pos 1023) ≤ᶠ q → root-exact q ≡ whole (pos (root-entry 1023))
 
 -- every layer over lawful curves is a lawful curve
 pub record Layers-keep : Type 0 where
@@ -53,9 +53,9 @@ pub record Layers-keep : Type 0 where
 
 -- worked readings
 pub record Worked-readings : Type 0 where
-  pub root-before : rootV (negsuc 0) ≡ pos 0
-  pub root-0 : rootV (pos 0) ≡ pos 0
-  pub root-1 : rootV (pos 1) ≡ pos 256
-  pub root-2 : rootV (pos 2) ≡ pos 362
-  pub root-1023 : rootV (pos 1023) ≡ pos 8187
-  pub root-beyond : rootV (pos 1024) ≡ pos 8187
+  pub root-before : root-value (negsuc 0) ≡ pos 0
+  pub root-0 : root-value (pos 0) ≡ pos 0
+  pub root-1 : root-value (pos 1) ≡ pos 256
+  pub root-2 : root-value (pos 2) ≡ pos 362
+  pub root-1023 : root-value (pos 1023) ≡ pos 8187
+  pub root-beyond : root-value (pos 1024) ≡ pos 8187

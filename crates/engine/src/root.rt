@@ -4,7 +4,7 @@ ghost use mathlib.Core.Path.{_≡_};
 ghost use Prim.Native.Nat.{_<_};
 ghost use lib.IntN.{pos, natAbs};
 ghost use Rattle.engine.specs.Coordinates.{hold};
-ghost use Rattle.engine.specs.Root.{rootEntry, rootCurve, Root-table};
+ghost use Rattle.engine.specs.Root.{root-entry, root-curve, Root-table};
 use self::entries::ROOTS;
 use crate::curve::Curve;
 
@@ -20,7 +20,7 @@ fn roots() -> &'static [u16; 1024]
 // Entry i of the table.
 fn root_at(i: usize) -> u16
     requires { ⌜ i < 1024 ⌝ }
-    ensures { λ r. ⌜ r ≡ rootEntry i ⌝ }
+    ensures { λ r. ⌜ r ≡ root-entry i ⌝ }
 {
     roots()[i]
 }
@@ -38,13 +38,13 @@ fn slot(x: i32) -> usize
 pub struct Root;
 
 pub impl Curve for Root as RootCurve {
-    ghost V = { λ _. rootCurve .V };
+    ghost V = { λ _. root-curve .V };
 
-    ghost E = { λ _. rootCurve .E };
+    ghost E = { λ _. root-curve .E };
 
-    ghost S = { λ _. rootCurve .S };
+    ghost S = { λ _. root-curve .S };
 
-    ghost R = { λ _. rootCurve .R };
+    ghost R = { λ _. root-curve .R };
 
     fn value(&self, x: i32) -> i32 {
         i32::from(root_at(slot(x)))

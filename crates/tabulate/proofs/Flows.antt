@@ -9,18 +9,18 @@ use Rattle.std.specs.declared.option.Option.{Option}
 use Rattle.std.specs.declared.option.Option.the-variants.{Some, None}
 use Rattle.std.specs.declared.result.Result.{Result}
 use Rattle.std.specs.declared.result.Result.the-variants.{Ok, Err}
-use Rattle.engine.specs.Bands.{IsBand, bandRefusal}
+use Rattle.engine.specs.Bands.{Is-band, band-refusal}
 use Rattle.engine.specs.Coordinates.{Coordinate}
 use Rattle.engine.specs.Curves.{Meaning, Rules, bare}
 use Rattle.engine.specs.Refusals.{Told, Outcome, told}
-use Rattle.engine.specs.Root.{rootCurve}
+use Rattle.engine.specs.Root.{root-curve}
 use Rattle.engine.specs.declared.band.Band.{Band}
 use Rattle.engine.specs.declared.refusal.Refusal.{Refusal}
 use Rattle.engine.proofs.Holds.{band-ends, hold-low, hold-high}
 use Rattle.engine.proofs.Layers.{bare-rules, chain-rules, offset-rules, clamp-rules}
 use Rattle.engine.proofs.RootRules.{root-rules}
-use Rattle.tabulate.specs.Flow.{FlowCurve, Flow-law, Flow-table, Piled, flowCurve, flowOf, flowRow, orElse, pile, settingsRefusal}
-use Rattle.tabulate.specs.Tables.{Faithful, IsTable, stepRefusal}
+use Rattle.tabulate.specs.Flow.{Flow-curve, Flow-law, Flow-table, Piled, asked-flow, flow-of, flow-row, or-else, pile, settings-refusal}
+use Rattle.tabulate.specs.Tables.{Faithful, Is-table, step-refusal}
 use Rattle.tabulate.specs.declared.nozzle.Settings.{Settings}
 use Rattle.tabulate.specs.declared.table.Row.{Row}
 use Rattle.tabulate.specs.declared.table.Table.{Table}
@@ -29,16 +29,16 @@ use Rattle.tabulate.proofs.Laws.{each-row, faithful}
 -- ---- refusals
 
 -- a refusal comes first, or a later one comes where there is none
-pub refused-first : {first : Option Told} {t : Told} (later : Option Told) → first ≡ Some t → orElse first later ≡ Some t
-refused-first later e = ap (λ o. orElse o later) e
+pub refused-first : {first : Option Told} {t : Told} (later : Option Told) → first ≡ Some t → or-else first later ≡ Some t
+refused-first later e = ap (λ o. or-else o later) e
 
-pub refused-later : {first later due : Option Told} → first ≡ None → later ≡ due → orElse first later ≡ due
-refused-later {first} {later} e d = ap (λ o. orElse o later) e ∙ d
+pub refused-later : {first later due : Option Told} → first ≡ None → later ≡ due → or-else first later ≡ due
+refused-later {first} {later} e d = ap (λ o. or-else o later) e ∙ d
 
 -- ---- the table
 
-pub table-is : (s : Settings) (limit span : Band) (c : FlowCurve) (t : Table FlowCurve) → IsBand (s .low) (s .high) limit
-    → IsBand (s .first) (s .last) span → Piled (s .zero) (s .trim) limit c → IsTable c span (s .step) t → Flow-table s t
+pub table-is : (s : Settings) (limit span : Band) (c : Flow-curve) (t : Table Flow-curve) → Is-band (s .low) (s .high) limit
+    → Is-band (s .first) (s .last) span → Piled (s .zero) (s .trim) limit c → Is-table c span (s .step) t → Flow-table s t
 table-is s limit span c t l p q h = record {
   zero-is = ap (λ c. c .below .below .inner .shift) (h .curve-is) ∙ q .zero-is;
   trim-is = ap (λ c. c .below .shift) (h .curve-is) ∙ q .trim-is;
@@ -52,25 +52,25 @@ table-is s limit span c t l p q h = record {
 -- ---- the law
 
 -- the flow in the code keeps the rules
-flow-rules : (c : FlowCurve) → Rules (flowOf c)
+flow-rules : (c : Flow-curve) → Rules (flow-of c)
 flow-rules c =
     let b = c .band in
     let e = band-ends (b .lo) (b .hi) (b .low) (b .order) (b .high) in
     clamp-rules (b .lo) (b .hi) _ (e .0) (e .1) (b .order)
     (offset-rules (c .below .shift) _
-    (chain-rules rootCurve _ root-rules (offset-rules (c .below .below .inner .shift) bare bare-rules)))
+    (chain-rules root-curve _ root-rules (offset-rules (c .below .below .inner .shift) bare bare-rules)))
 
-pub flow-law : (s : Settings) (t : Table FlowCurve) → Flow-table s t → Flow-law s t
+pub flow-law : (s : Settings) (t : Table Flow-curve) → Flow-table s t → Flow-law s t
 flow-law s t h = record {
-  faithful = subst (λ E. Faithful E (m .S) (m .R) (s .first) (s .last) (natAbs (s .step)) (flowRow t)) exact-is law;
+  faithful = subst (λ E. Faithful E (m .S) (m .R) (s .first) (s .last) (natAbs (s .step)) (flow-row t)) exact-is law;
   not-below = values (λ v. s .low ≤ℤ v) (λ x. subst (λ a. a ≤ℤ m .V x) (h .low-is) (hold-low _ _ (t .curve .band .order) _));
   not-above = values (λ v. v ≤ℤ s .high) (λ x. subst (λ b. m .V x ≤ℤ b) (h .high-is) (hold-high _ _ (t .curve .band .order) _));
 }
   where
     m : Meaning
-    m = flowOf (t .curve)
+    m = flow-of (t .curve)
 
-    exact-is : flowOf (t .curve) .E ≡ flowCurve s .E
+    exact-is : flow-of (t .curve) .E ≡ asked-flow s .E
     exact-is = λ i. pile (h .low-is i) (h .high-is i) (h .trim-is i) (h .zero-is i) .E
 
     step-is : t .step ≡ natAbs (s .step)
@@ -80,28 +80,28 @@ flow-law s t h = record {
     ends = band-ends (t .span .lo) (t .span .hi) (t .span .low) (t .span .order) (t .span .high)
 
     -- by the table's own numbers
-    own : Faithful (m .E) (m .S) (m .R) (t .span .lo) (t .span .hi) (t .step) (flowRow t)
+    own : Faithful (m .E) (m .S) (m .R) (t .span .lo) (t .span .hi) (t .step) (flow-row t)
     own =
         faithful m (flow-rules (t .curve)) (t .span .lo) (t .span .hi) (t .step) (ends .0) (ends .1) (t .span .order)
         (t .some)
 
-    law : Faithful (m .E) (m .S) (m .R) (s .first) (s .last) (natAbs (s .step)) (flowRow t)
+    law : Faithful (m .E) (m .S) (m .R) (s .first) (s .last) (natAbs (s .step)) (flow-row t)
     law =
-        subst₃ (λ first last step. Faithful (m .E) (m .S) (m .R) first last step (flowRow t)) (h .first-is) (h .last-is)
+        subst₃ (λ first last step. Faithful (m .E) (m .S) (m .R) first last step (flow-row t)) (h .first-is) (h .last-is)
         step-is own
 
     -- what holds of every value of the curve holds of every row's
-    values : (P : ℤ → Type 0) → ((x : ℤ) → P (m .V x)) → (i : ℕ) (r : Row) → flowRow t i ≡ Some r → P (r .value)
+    values : (P : ℤ → Type 0) → ((x : ℤ) → P (m .V x)) → (i : ℕ) (r : Row) → flow-row t i ≡ Some r → P (r .value)
     values P p i = each-row (m .V) (t .span .lo) (t .span .hi) (t .step) (λ r. P (r .value)) i (λ _. p _)
 
 -- ---- the answer
 
 -- from what the last step answers to what the call answers
-pub answer : (s : Settings) (limit span : Band) (c : FlowCurve) (r : Result (Table FlowCurve) Refusal)
-    → (bandRefusal (s .low) (s .high) ≡ None) × IsBand (s .low) (s .high) limit
-    → (bandRefusal (s .first) (s .last) ≡ None) × IsBand (s .first) (s .last) span → Piled (s .zero) (s .trim) limit c
-    → Outcome told (stepRefusal (s .step)) (IsTable c span (s .step)) r
-    → Outcome told (settingsRefusal s) (Flow-table s) r × Outcome told (settingsRefusal s) (Flow-law s) r
+pub answer : (s : Settings) (limit span : Band) (c : Flow-curve) (r : Result (Table Flow-curve) Refusal)
+    → (band-refusal (s .low) (s .high) ≡ None) × Is-band (s .low) (s .high) limit
+    → (band-refusal (s .first) (s .last) ≡ None) × Is-band (s .first) (s .last) span → Piled (s .zero) (s .trim) limit c
+    → Outcome told (step-refusal (s .step)) (Is-table c span (s .step)) r
+    → Outcome told (settings-refusal s) (Flow-table s) r × Outcome told (settings-refusal s) (Flow-law s) r
 answer s limit span c (Ok t) l p q h =
     let none = refused-later (l .0) (refused-later (p .0) (h .0)) in
     let is = table-is s limit span c t (l .1) (p .1) q (h .1) in

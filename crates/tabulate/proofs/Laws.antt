@@ -15,7 +15,7 @@ use Rattle.engine.specs.Coordinates.{Coordinate}
 use Rattle.engine.specs.Curves.{Meaning, Rules}
 use Rattle.engine.proofs.Orders.{≤ᶠ-trans, whole-≤, whole-≤-out}
 use Rattle.engine.proofs.Sums.{steps, whole-sum, whole-within}
-use Rattle.tabulate.specs.Tables.{readingAt, rowCount, rowAt, Faithful}
+use Rattle.tabulate.specs.Tables.{reading-at, row-count, row-at, Faithful}
 use Rattle.tabulate.specs.declared.table.Row.{Row}
 use Rattle.tabulate.proofs.Rows.{reading-inside, reading-there}
 
@@ -49,48 +49,48 @@ picked false x r e = let z : _≡_ {A = ℕ} 0 1 = cc in absurd (omega arith)
 
 module _ (V : ℤ → ℤ) (first last : ℤ) (step : ℕ) where
   abbrev pub row : ℕ → Option Row
-  row i = cond (ltb i (rowCount first last step)) (Some (rowAt V first step i)) None
+  row i = cond (ltb i (row-count first last step)) (Some (row-at V first step i)) None
 
   -- what holds of the rows of the definition holds of each row that is answered
-  pub each-row : (P : Row → Type 0) (i : ℕ) → (i < rowCount first last step → P (rowAt V first step i))
+  pub each-row : (P : Row → Type 0) (i : ℕ) → (i < row-count first last step → P (row-at V first step i))
       → (r : Row) → row i ≡ Some r → P r
   each-row P i p r e =
-      let a = picked (ltb i (rowCount first last step)) (rowAt V first step i) r e in
+      let a = picked (ltb i (row-count first last step)) (row-at V first step i) r e in
       subst P (a .1) (p (ltb-true _ _ (a .0)))
 
   -- and of two neighbours
   both-rows : (P : Row → Row → Type 0) (i : ℕ)
-      → (suc i < rowCount first last step → P (rowAt V first step i) (rowAt V first step (suc i)))
+      → (suc i < row-count first last step → P (row-at V first step i) (row-at V first step (suc i)))
       → (r s : Row) → row i ≡ Some r → row (suc i) ≡ Some s → P r s
   both-rows P i p r s e d =
-      each-row (λ s. P r s) (suc i) (λ h. each-row (λ r. P r (rowAt V first step (suc i))) i (λ _. p h) r e) s d
+      each-row (λ s. P r s) (suc i) (λ h. each-row (λ r. P r (row-at V first step (suc i))) i (λ _. p h) r e) s d
 
 -- ---- the rows of a lawful curve
 
 module _ (m : Meaning) (k : Rules m) (first last : ℤ) (step : ℕ) (cf : Coordinate first) (cl : Coordinate last)
     (order : first ≤ℤ last) (some : 1 ≤ step) where
-  fits : (i : ℕ) → i < rowCount first last step → Coordinate (readingAt first step i)
+  fits : (i : ℕ) → i < row-count first last step → Coordinate (reading-at first step i)
   fits i h =
       let r = reading-inside first last step i order h in
       record { low = omega (arith, ints); high = omega (arith, ints) }
 
-  next-is : (i : ℕ) → readingAt first step (suc i) ≡ readingAt first step i +ℤ pos step
+  next-is : (i : ℕ) → reading-at first step (suc i) ≡ reading-at first step i +ℤ pos step
   next-is i = omega (arith, ints)
 
-  steady : (i : ℕ) → suc i < rowCount first last step → m .V (readingAt first step i) ≤ℤ m .V (readingAt first step (suc i))
+  steady : (i : ℕ) → suc i < row-count first last step → m .V (reading-at first step i) ≤ℤ m .V (reading-at first step (suc i))
   steady i h = k .value-mono _ _ (fits i (omega arith)) (fits (suc i) h) (omega (arith, ints, next-is i))
 
-  gentle : (i : ℕ) → suc i < rowCount first last step
-      → m .V (readingAt first step (suc i)) ≤ℤ (m .V (readingAt first step i) +ℤ pos (m .S * step + 2 * m .R))
+  gentle : (i : ℕ) → suc i < row-count first last step
+      → m .V (reading-at first step (suc i)) ≤ℤ (m .V (reading-at first step i) +ℤ pos (m .S * step + 2 * m .R))
   gentle i h =
-      subst (λ x. m .V x ≤ℤ (m .V (readingAt first step i) +ℤ pos (m .S * step + 2 * m .R))) (sym (next-is i))
-      (value-rise m k (readingAt first step i) step (fits i (omega arith)) (subst Coordinate (next-is i) (fits (suc i) h)))
+      subst (λ x. m .V x ≤ℤ (m .V (reading-at first step i) +ℤ pos (m .S * step + 2 * m .R))) (sym (next-is i))
+      (value-rise m k (reading-at first step i) step (fits i (omega arith)) (subst Coordinate (next-is i) (fits (suc i) h)))
 
   pub faithful : Faithful (m .E) (m .S) (m .R) first last step (row (m .V) first last step)
   faithful = record {
-    there = λ i h. (rowAt (m .V) first step i, there i (reading-there first last step i some order h));
+    there = λ i h. (row-at (m .V) first step i, there i (reading-there first last step i some order h));
     inside = λ i. each-row (m .V) first last step (λ r. r .reading ≤ℤ last) i (reading-inside first last step i order);
-    reads = λ i. each-row (m .V) first last step (λ r. r .reading ≡ readingAt first step i) i (λ _. refl);
+    reads = λ i. each-row (m .V) first last step (λ r. r .reading ≡ reading-at first step i) i (λ _. refl);
     near-low =
         λ i. each-row (m .V) first last step (λ r. m .E (whole (r .reading)) ≤ᶠ whole (r .value) +ᶠ whole (pos (m .R))) i
         (λ h. k .value-low _ (fits i h));
@@ -101,5 +101,5 @@ module _ (m : Meaning) (k : Rules m) (first last : ℤ) (step : ℕ) (cf : Coord
     gentle = λ i. both-rows (m .V) first last step (λ r s. s .value ≤ℤ (r .value +ℤ pos (m .S * step + 2 * m .R))) i (gentle i);
   }
     where
-      there : (i : ℕ) → i < rowCount first last step → row (m .V) first last step i ≡ Some (rowAt (m .V) first step i)
-      there i h = let t : ltb i (rowCount first last step) ≡ true = lt-ltb _ _ h in rw t refl
+      there : (i : ℕ) → i < row-count first last step → row (m .V) first last step i ≡ Some (row-at (m .V) first step i)
+      there i h = let t : ltb i (row-count first last step) ≡ true = lt-ltb _ _ h in rw t refl

@@ -5,7 +5,7 @@ use native.Mathlib.Omega.{arith}
 use lib.IntN.{ℤ, pos, _+ℤ_, _-ℤ_, natAbs}
 use lib.Signed.{_≤ℤ_}
 use borrow.Author.Differences.{ints}
-use Rattle.tabulate.specs.Tables.{readingAt, rowCount}
+use Rattle.tabulate.specs.Tables.{reading-at, row-count}
 use Rattle.tabulate.specs.declared.table.Row.{Row}
 
 -- a row by its parts
@@ -20,15 +20,15 @@ reached : (w s i : ℕ) → 1 ≤ s → i * s ≤ w → i < suc (w / s)
 reached w s i p h = lt-of-mul-lt-mul-right s (omega arith)
 
 -- the way from the first reading to row i is at most the span's width
-pub way-fits : (first last : ℤ) (step i : ℕ) → i < rowCount first last step → i * step ≤ natAbs (last -ℤ first)
+pub way-fits : (first last : ℤ) (step i : ℕ) → i < row-count first last step → i * step ≤ natAbs (last -ℤ first)
 way-fits first last step i h = reach (natAbs (last -ℤ first)) step i h
 
 -- a row there is has a reading not above the last
-pub reading-inside : (first last : ℤ) (step i : ℕ) → first ≤ℤ last → i < rowCount first last step
-    → readingAt first step i ≤ℤ last
+pub reading-inside : (first last : ℤ) (step i : ℕ) → first ≤ℤ last → i < row-count first last step
+    → reading-at first step i ≤ℤ last
 reading-inside first last step i o h = let w = way-fits first last step i h in omega (arith, ints)
 
 -- and a reading not above the last has a row
-pub reading-there : (first last : ℤ) (step i : ℕ) → 1 ≤ step → first ≤ℤ last → readingAt first step i ≤ℤ last
-    → i < rowCount first last step
+pub reading-there : (first last : ℤ) (step i : ℕ) → 1 ≤ step → first ≤ℤ last → reading-at first step i ≤ℤ last
+    → i < row-count first last step
 reading-there first last step i p o h = reached (natAbs (last -ℤ first)) step i p (omega (arith, ints))

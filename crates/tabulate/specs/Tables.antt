@@ -18,36 +18,36 @@ use Rattle.tabulate.specs.declared.table.Table.{Table}
 -- ---- the rows
 
 -- the reading of row i
-abbrev pub readingAt : ℤ → ℕ → ℕ → ℤ
-readingAt first step i = first +ℤ pos (i * step)
+abbrev pub reading-at : ℤ → ℕ → ℕ → ℤ
+reading-at first step i = first +ℤ pos (i * step)
 
 -- how many rows there are, for last not below first and step at least 1
-abbrev pub rowCount : ℤ → ℤ → ℕ → ℕ
-rowCount first last step = suc (natAbs (last -ℤ first) / step)
+abbrev pub row-count : ℤ → ℤ → ℕ → ℕ
+row-count first last step = suc (natAbs (last -ℤ first) / step)
 
 -- row i: a reading and the curve's value there
-abbrev pub rowAt : (ℤ → ℤ) → ℤ → ℕ → ℕ → Row
-rowAt V first step i = record { reading = readingAt first step i; value = V (readingAt first step i) }
+abbrev pub row-at : (ℤ → ℤ) → ℤ → ℕ → ℕ → Row
+row-at V first step i = record { reading = reading-at first step i; value = V (reading-at first step i) }
 
 -- ---- a table in the code
 
 -- a step is a whole number from 1 to 16383
-abbrev pub stepRefusal : ℤ → Option Told
-stepRefusal step = cond (ltZ step (pos 1) || ltZ (pos furthest) step) (Some (alone out-of-limits)) None
+abbrev pub step-refusal : ℤ → Option Told
+step-refusal step = cond (ltZ step (pos 1) || ltZ (pos furthest) step) (Some (alone out-of-limits)) None
 
 -- the table of a curve over a span
-pub record IsTable {C : Type 0} (curve : C) (span : Band) (step : ℤ) (t : Table C) : Type 0 where
+pub record Is-table {C : Type 0} (curve : C) (span : Band) (step : ℤ) (t : Table C) : Type 0 where
   pub curve-is : t .curve ≡ curve
   pub span-is : t .span ≡ span
   pub step-is : pos (t .step) ≡ step
 
 -- how many rows it has
-abbrev pub countOf : {C : Type 0} → Table C → ℕ
-countOf t = rowCount (t .span .lo) (t .span .hi) (t .step)
+abbrev pub count-of : {C : Type 0} → Table C → ℕ
+count-of t = row-count (t .span .lo) (t .span .hi) (t .step)
 
 -- its row i, where its curve means m
-abbrev pub rowOf : {C : Type 0} → Meaning → Table C → ℕ → Option Row
-rowOf m t i = cond (ltb i (countOf t)) (Some (rowAt (m .V) (t .span .lo) (t .step) i)) None
+abbrev pub row-of : {C : Type 0} → Meaning → Table C → ℕ → Option Row
+row-of m t i = cond (ltb i (count-of t)) (Some (row-at (m .V) (t .span .lo) (t .step) i)) None
 
 -- ---- what a table is good for
 
@@ -55,9 +55,9 @@ rowOf m t i = cond (ltb i (countOf t)) (Some (rowAt (m .V) (t .span .lo) (t .ste
 pub record Faithful (E : Fraction → Fraction) (rise radius : ℕ) (first last : ℤ) (step : ℕ) (row : ℕ → Option Row)
     : Type 0 where
   -- there is a row i exactly where i steps from the first reading do not pass the last, and it has that reading
-  pub there : (i : ℕ) → readingAt first step i ≤ℤ last → (r : Row) × (row i ≡ Some r)
+  pub there : (i : ℕ) → reading-at first step i ≤ℤ last → (r : Row) × (row i ≡ Some r)
   pub inside : (i : ℕ) (r : Row) → row i ≡ Some r → r .reading ≤ℤ last
-  pub reads : (i : ℕ) (r : Row) → row i ≡ Some r → r .reading ≡ readingAt first step i
+  pub reads : (i : ℕ) (r : Row) → row i ≡ Some r → r .reading ≡ reading-at first step i
   -- each value lies within the radius of the exact curve at its reading
   pub near-low : (i : ℕ) (r : Row) → row i ≡ Some r → E (whole (r .reading)) ≤ᶠ whole (r .value) +ᶠ whole (pos radius)
   pub near-high : (i : ℕ) (r : Row) → row i ≡ Some r → whole (r .value) ≤ᶠ E (whole (r .reading)) +ᶠ whole (pos radius)

@@ -2,7 +2,7 @@
 
 ghost use mathlib.Core.Path.{_≡_};
 ghost use Rattle.engine.specs.Refusals.{Outcome, told};
-ghost use Rattle.tabulate.specs.Flow.{Flow-law, Flow-table, Piled, flowOf, flowRow, settingsRefusal};
+ghost use Rattle.tabulate.specs.Flow.{Flow-law, Flow-table, Piled, flow-of, flow-row, settings-refusal};
 use super::table::Row;
 use super::table::Table;
 use engine::band::Band;
@@ -45,8 +45,8 @@ pub type Flow = Clamp<Offset<Chain<Root, Offset<Bare>>>>;
 /// Refuses 1 and then 11 where `low` and `high` make no band, then the same of `first` and `last`, then 11 where `step`
 /// is not from 1 to 16383.
 pub fn tabulate(s: Settings) -> Result<Table<Flow>, Refusal>
-    ensures answer { λ r. ⌜ Outcome told (settingsRefusal s) (Flow-table s) r ⌝ }
-    ensures law { λ r. ⌜ Outcome told (settingsRefusal s) (Flow-law s) r ⌝ }
+    ensures answer { λ r. ⌜ Outcome told (settings-refusal s) (Flow-table s) r ⌝ }
+    ensures law { λ r. ⌜ Outcome told (settings-refusal s) (Flow-law s) r ⌝ }
 {
     let limit = Band::new(s.low, s.high)?;
     let span = Band::new(s.first, s.last)?;
@@ -55,14 +55,14 @@ pub fn tabulate(s: Settings) -> Result<Table<Flow>, Refusal>
 
 /// Row i of a flow table, counted from 0: a reading and its flow.
 pub fn flow_row(table: &Table<Flow>, i: u32) -> Option<Row>
-    ensures { λ r. ⌜ r ≡ flowRow (now (table .entry)) i ⌝ }
+    ensures { λ r. ⌜ r ≡ flow-row (now (table .entry)) i ⌝ }
 {
     table.row(i)
 }
 
 /// The rise and the radius that a flow table tells.
 pub fn flow_bounds(table: &Table<Flow>) -> (u16, u16)
-    ensures { λ r. ⌜ r .0 ≡ flowOf (now (table .entry) .curve) .S ⌝ ∗ ⌜ r .1 ≡ flowOf (now (table .entry) .curve) .R ⌝ }
+    ensures { λ r. ⌜ r .0 ≡ flow-of (now (table .entry) .curve) .S ⌝ ∗ ⌜ r .1 ≡ flow-of (now (table .entry) .curve) .R ⌝ }
 {
     (table.rise(), table.radius())
 }

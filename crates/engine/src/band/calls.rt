@@ -1,7 +1,7 @@
 //! Making a band and asking it.
 
 ghost use mathlib.Core.Path.{_≡_};
-ghost use Rattle.engine.specs.Bands.{bandRefusal, IsBand, inBand};
+ghost use Rattle.engine.specs.Bands.{band-refusal, Is-band, in-band};
 ghost use Rattle.engine.specs.Coordinates.{hold, lowest, highest};
 ghost use Rattle.engine.specs.Refusals.{Outcome, told};
 use super::Band;
@@ -13,7 +13,7 @@ use crate::refusal::Refusal;
 impl Band {
     /// The band from a to b. Refuses 1 where either is no coordinate, then 11 where b is below a.
     pub fn new(a: i32, b: i32) -> Result<Band, Refusal>
-        ensures { λ r. ⌜ Outcome told (bandRefusal a b) (IsBand a b) r ⌝ }
+        ensures { λ r. ⌜ Outcome told (band-refusal a b) (Is-band a b) r ⌝ }
     {
         if !is_coordinate(a) || !is_coordinate(b) {
             return Err(Refusal::NotCoordinate);
@@ -26,7 +26,7 @@ impl Band {
 
     /// The band of all coordinates.
     pub fn all() -> Band
-        ensures { λ r. ⌜ IsBand lowest highest r ⌝ }
+        ensures { λ r. ⌜ Is-band lowest highest r ⌝ }
     {
         Band {
             lo: LOWEST,
@@ -50,7 +50,7 @@ impl Band {
 
     /// Whether the reading x lies in the band.
     pub fn contains(&self, x: i32) -> bool
-        ensures { λ r. ⌜ r ≡ inBand (now (self .entry) .lo) (now (self .entry) .hi) x ⌝ }
+        ensures { λ r. ⌜ r ≡ in-band (now (self .entry) .lo) (now (self .entry) .hi) x ⌝ }
     {
         x >= self.lo && x <= self.hi
     }

@@ -7,7 +7,7 @@ ghost use lib.Signed.{_≤ℤ_};
 ghost use Rattle.engine.specs.Coordinates.{Coordinate};
 ghost use Rattle.engine.specs.Means.{means};
 ghost use Rattle.engine.specs.Refusals.{Outcome, told};
-ghost use Rattle.tabulate.specs.Tables.{IsTable, countOf, readingAt, rowAt, rowCount, rowOf, stepRefusal};
+ghost use Rattle.tabulate.specs.Tables.{Is-table, count-of, reading-at, row-at, row-count, row-of, step-refusal};
 use super::Row;
 use super::Table;
 use engine::band::Band;
@@ -18,7 +18,7 @@ use engine::refusal::Refusal;
 impl<C: Curve + Drop> Table<C> {
     /// The table of a curve over a span. Refuses 11 where the step is not from 1 to 16383.
     pub(crate) fn new(curve: C, span: Band, step: i32) -> Result<Table<C>, Refusal>
-        ensures { λ r. ⌜ Outcome told (stepRefusal step) (IsTable curve span step) r ⌝ }
+        ensures { λ r. ⌜ Outcome told (step-refusal step) (Is-table curve span step) r ⌝ }
     {
         if step < 1 || step > FURTHEST {
             return Err(Refusal::OutOfLimits);
@@ -32,14 +32,14 @@ impl<C: Curve + Drop> Table<C> {
 
     /// How many rows there are.
     pub fn len(&self) -> u32
-        ensures { λ r. ⌜ r ≡ countOf (now (self .entry)) ⌝ }
+        ensures { λ r. ⌜ r ≡ count-of (now (self .entry)) ⌝ }
     {
         row_count(self.span, self.step)
     }
 
     /// Row i, counted from 0.
     pub fn row(&self, i: u32) -> Option<Row>
-        ensures { λ r. ⌜ r ≡ rowOf (means C·Curve (now (self .entry) .curve)) (now (self .entry)) i ⌝ }
+        ensures { λ r. ⌜ r ≡ row-of (means C·Curve (now (self .entry) .curve)) (now (self .entry)) i ⌝ }
     {
         if i < self.len() {
             Some(row_at(&self.curve, self.span, self.step, i))
@@ -65,8 +65,8 @@ impl<C: Curve + Drop> Table<C> {
 
 // The row at i steps from the start of the span.
 fn row_at<C: Curve>(curve: &C, span: Band, step: u32, i: u32) -> Row
-    requires { ⌜ i < rowCount (span .lo) (span .hi) step ⌝ }
-    ensures { λ r. ⌜ r ≡ rowAt (C·Curve .V (now (curve .entry))) (span .lo) step i ⌝ }
+    requires { ⌜ i < row-count (span .lo) (span .hi) step ⌝ }
+    ensures { λ r. ⌜ r ≡ row-at (C·Curve .V (now (curve .entry))) (span .lo) step i ⌝ }
 {
     let reading = reading_at(span, step, i);
     Row {
@@ -78,7 +78,7 @@ fn row_at<C: Curve>(curve: &C, span: Band, step: u32, i: u32) -> Row
 // How many rows a table of the span has.
 fn row_count(span: Band, step: u32) -> u32
     requires { ⌜ 1 ≤ step ⌝ }
-    ensures { λ r. ⌜ r ≡ rowCount (span .lo) (span .hi) step ⌝ }
+    ensures { λ r. ⌜ r ≡ row-count (span .lo) (span .hi) step ⌝ }
 {
     width(span) / step + 1
 }
@@ -92,8 +92,8 @@ fn width(span: Band) -> u32
 
 // The reading at i steps from the start of the span.
 fn reading_at(span: Band, step: u32, i: u32) -> i32
-    requires { ⌜ i < rowCount (span .lo) (span .hi) step ⌝ }
-    ensures is { λ r. ⌜ r ≡ readingAt (span .lo) step i ⌝ }
+    requires { ⌜ i < row-count (span .lo) (span .hi) step ⌝ }
+    ensures is { λ r. ⌜ r ≡ reading-at (span .lo) step i ⌝ }
     ensures inside { λ r. ⌜ Coordinate r ⌝ }
 {
     span.start() + steps(span, step, i) as i32
@@ -101,7 +101,7 @@ fn reading_at(span: Band, step: u32, i: u32) -> i32
 
 // i steps, which do not pass the end of the span.
 fn steps(span: Band, step: u32, i: u32) -> u32
-    requires { ⌜ i < rowCount (span .lo) (span .hi) step ⌝ }
+    requires { ⌜ i < row-count (span .lo) (span .hi) step ⌝ }
     ensures is { λ r. ⌜ r ≡ i * step ⌝ }
     ensures inside { λ r. ⌜ (span .lo +ℤ pos r) ≤ℤ span .hi ⌝ }
 {
