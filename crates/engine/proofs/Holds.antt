@@ -1,4 +1,4 @@
--- Holding, of whole numbers and of fractions: it keeps the order and widens no distance.
+-- Holding keeps the order and widens no distance. `held-` lemmas are of fractions, `hold-` lemmas of whole numbers.
 use mathlib.Core.Path.{_≡_, refl}
 use mathlib.Core.Bool.{Bool, true, false, cond}
 use Prim.Native.Nat.{ℕ}
@@ -28,6 +28,7 @@ module _ (a b : ℤ) (band : a ≤ℤ b) where
   held-high : (q : Fraction) → holdᶠ a b q ≤ᶠ whole b
   held-high q = held-cases (λ r. r ≤ᶠ whole b) q (λ _. whole-≤ a b band) (λ _. ≤ᶠ-refl (whole b)) (λ _ h. h)
 
+  -- what is at or above a and q is at or above q held
   held-least : (q r : Fraction) → whole a ≤ᶠ r → q ≤ᶠ r → holdᶠ a b q ≤ᶠ r
   held-least q r h k = held-cases (λ s. s ≤ᶠ r) q (λ _. h) (λ j. ≤ᶠ-trans j k) (λ _ _. k)
 

@@ -158,17 +158,17 @@ module _ (k : ℕ → Knot) (top S : ℕ) (from : ℕ → Fraction → Fraction)
     curve q = piecewise under (λ q. Y 0) from top q
 
     -- the order of any two knots
-    x-order : (i n : ℕ) → i + n ≤ top → X i ≤ᶠ X (i + n)
-    x-order i zero l = let e : i ≡ i + 0 = omega arith in subst (λ m. X i ≤ᶠ X m) e (≤ᶠ-refl (X i))
-    x-order i (suc n) l =
+    x-apart : (i n : ℕ) → i + n ≤ top → X i ≤ᶠ X (i + n)
+    x-apart i zero l = let e : i ≡ i + 0 = omega arith in subst (λ m. X i ≤ᶠ X m) e (≤ᶠ-refl (X i))
+    x-apart i (suc n) l =
         let e : suc (i + n) ≡ i + suc n = omega arith in
-        subst (λ m. X i ≤ᶠ X m) e (≤ᶠ-trans (x-order i n (omega arith)) (j .x-rises (i + n) (omega arith)))
+        subst (λ m. X i ≤ᶠ X m) e (≤ᶠ-trans (x-apart i n (omega arith)) (j .x-rises (i + n) (omega arith)))
 
     x-below : (i m : ℕ) → i ≤ m → m ≤ top → X i ≤ᶠ X m
     x-below i m h l = at (le-dest h)
       where
         at : (n : ℕ) × (i + n ≡ m) → X i ≤ᶠ X m
-        at g = subst (λ m. X i ≤ᶠ X m) (g .1) (x-order i (g .0) (omega (arith, g .1)))
+        at g = subst (λ m. X i ≤ᶠ X m) (g .1) (x-apart i (g .0) (omega (arith, g .1)))
 
     -- where knot i is above q, so is every later one
     not-later : (i : ℕ) (q : Fraction) → under i q ≡ false → (m : ℕ) → i ≤ m → m ≤ top → under m q ≡ false

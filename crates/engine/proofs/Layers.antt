@@ -9,7 +9,7 @@ use lib.IntN.{ℤ, pos, _+ℤ_}
 use lib.Signed.{_≤ℤ_}
 use Rattle.std.proofs.shelf.Tests.{cases-lt}
 use Rattle.engine.specs.Fraction.{Fraction, whole, _+ᶠ_, _≤ᶠ_}
-use Rattle.engine.specs.Coordinates.{Coordinate, Within, holdᶠ, lowest, highest}
+use Rattle.engine.specs.Coordinates.{Coordinate, Within, furthest, holdᶠ, lowest, highest}
 use Rattle.engine.specs.Curves.{Meaning, Rules, bare, plus, offset, clamp, chain}
 use Rattle.engine.specs.Theorems.{Layers-keep}
 use Rattle.engine.proofs.Orders.{≤ᶠ-trans, ≤ᶠ-total}
@@ -33,8 +33,8 @@ bare-rules = record {
 
 -- the rules but for the ranges: what a clamp needs of the curve below
 record Steady (m : Meaning) : Type 0 where
-  rise-fits : m .S ≤ 16383
-  radius-fits : m .R ≤ 16383
+  rise-fits : m .S ≤ furthest
+  radius-fits : m .R ≤ furthest
   value-mono : (x y : ℤ) → Coordinate x → Coordinate y → x ≤ℤ y → m .V x ≤ℤ m .V y
   exact-mono : (p q : Fraction) → Within p → Within q → p ≤ᶠ q → m .E p ≤ᶠ m .E q
   exact-rise : (n : ℕ) (p q : Fraction) → Within p → Within q → p ≤ᶠ q → q ≤ᶠ p +ᶠ whole (pos n)
@@ -106,22 +106,22 @@ carried g k n p q fp fq h = ⊎-elim
 
 -- a distance held to 16383
 near-held : (p q : Fraction) (n : ℕ) → Within p → Within q → p ≤ᶠ q +ᶠ whole (pos n)
-    → p ≤ᶠ q +ᶠ whole (pos (min n 16383))
+    → p ≤ᶠ q +ᶠ whole (pos (min n furthest))
 near-held p q n fp fq h = ⊎-elim
-    (λ j. subst (λ i. p ≤ᶠ q +ᶠ whole (pos i)) (omega arith) (apart p q 16383 fp fq (omega arith)))
+    (λ j. subst (λ i. p ≤ᶠ q +ᶠ whole (pos i)) (omega arith) (apart p q furthest fp fq (omega arith)))
     (λ j. subst (λ i. p ≤ᶠ q +ᶠ whole (pos i)) (omega arith) h)
-    (cases-lt 16383 n)
+    (cases-lt furthest n)
 
 -- a rise held to 16383
 rise-held : (p q : Fraction) (s n : ℕ) → Within p → Within q → q ≤ᶠ p +ᶠ whole (pos (s * n))
-    → q ≤ᶠ p +ᶠ whole (pos (min s 16383 * n))
+    → q ≤ᶠ p +ᶠ whole (pos (min s furthest * n))
 rise-held p q s n fp fq h =
-    ⊎-elim (λ j. over n j h) (λ j. subst (λ i. q ≤ᶠ p +ᶠ whole (pos (i * n))) (omega arith) h) (cases-lt 16383 s)
+    ⊎-elim (λ j. over n j h) (λ j. subst (λ i. q ≤ᶠ p +ᶠ whole (pos (i * n))) (omega arith) h) (cases-lt furthest s)
   where
-    over : (n : ℕ) → 16383 < s → q ≤ᶠ p +ᶠ whole (pos (s * n)) → q ≤ᶠ p +ᶠ whole (pos (min s 16383 * n))
-    over zero j h = subst (λ i. q ≤ᶠ p +ᶠ whole (pos i)) (mul-zero s ∙ sym (mul-zero (min s 16383))) h
+    over : (n : ℕ) → furthest < s → q ≤ᶠ p +ᶠ whole (pos (s * n)) → q ≤ᶠ p +ᶠ whole (pos (min s furthest * n))
+    over zero j h = subst (λ i. q ≤ᶠ p +ᶠ whole (pos i)) (mul-zero s ∙ sym (mul-zero (min s furthest))) h
     over (suc n) j h =
-        let e : min s 16383 ≡ 16383 = omega arith in rw e (apart q p (16383 * suc n) fq fp (omega arith))
+        let e : min s furthest ≡ furthest = omega arith in rw e (apart q p (furthest * suc n) fq fp (omega arith))
 
 pub chain-rules : (g f : Meaning) → Rules g → Rules f → Rules (chain g f)
 chain-rules g f kg kf = record {

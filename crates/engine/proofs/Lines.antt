@@ -20,6 +20,7 @@ use Rattle.engine.proofs.Joins.{Joined, joined-on}
 
 -- ---- the arithmetic, with each product by itself
 
+-- the climb D × U / d does not fall as U / d grows
 grow-go : (D h U d U′ d′ : ℕ) → U * d′ ≤ U′ * d → D * U * (1 * d′ * h) ≤ D * U′ * (1 * d * h)
 grow-go D h U d U′ d′ l = omega (arith, mul-le-mul-right (D * h) l)
 
@@ -30,6 +31,7 @@ tilt S D h X Y k l = at (le-dest l)
     at : (e : ℕ) × (X + e ≡ Y) → S * h * X + D * Y ≤ S * h * Y + D * X
     at g = rw (← g .1) (omega (arith, mul-le-mul-right (g .0) k))
 
+-- the terms of the lag, with the product that all four share split off
 way-is : (S h U d d′ : ℕ) → S * U * (1 * d * h) * (d′ * (1 * d′ * h)) ≡ S * h * (U * d′) * (h * d * d′)
 way-is S h U d d′ = omega arith
 
@@ -42,6 +44,7 @@ rise-is D h U d d′ = omega arith
 rise-is′ : (D h U d d′ : ℕ) → D * U * d * (d′ * (1 * d′ * h)) ≡ D * (U * d′) * (h * d * d′)
 rise-is′ D h U d d′ = omega arith
 
+-- the lag S × U / d - D × U / (d × h) does not fall as U / d grows
 slow-go : (S D h U d U′ d′ : ℕ) → D ≤ S * h → U * d′ ≤ U′ * d
     → S * U * (1 * d * h) * (d′ * (1 * d′ * h)) + D * U′ * d′ * (d * (1 * d * h))
     ≤ S * U′ * (1 * d′ * h) * (d * (1 * d * h)) + D * U * d * (d′ * (1 * d′ * h))
@@ -56,14 +59,14 @@ module _ (s : Knot) (h D : ℕ) (h-pos : 0 < h) where
   abbrev climb : Fraction → Fraction
   climb q = (whole (pos D) *ᶠ (q -ᶠ whole (s .x))) /ᶠ h
 
-  climb-is : (q : Fraction) (t : Place (s .x) h q) → Is (climb q) (D * t .U) (1 * den q * h)
-  climb-is q t = Is-/ h h-pos (Is-* (Is-whole D) (t .start))
+  climb-is : (q : Fraction) (t : Place (s .x) h q) → Is (climb q) (D * t .from-start) (1 * den q * h)
+  climb-is q t = Is-/ h h-pos (Is-* (Is-whole D) (t .offset))
 
   W-pos : (d : ℕ) → 0 < d → 0 < 1 * d * h
   W-pos d k = omega (arith, mul-le-mul k h-pos)
 
-  below : (p q : Fraction) (t : Place (s .x) h p) (t′ : Place (s .x) h q) → p ≤ᶠ q → t .U * den q ≤ t′ .U * den p
-  below p q t t′ k = omega (arith, Val-≤-out (t .value) (t′ .value) k)
+  below : (p q : Fraction) (t : Place (s .x) h p) (t′ : Place (s .x) h q) → p ≤ᶠ q → t .from-start * den q ≤ t′ .from-start * den p
+  below p q t t′ k = omega (arith, Val-≤-out (t .terms) (t′ .terms) k)
 
   -- the piece does not fall
   line-grows : (p q : Fraction) → Place (s .x) h p → Place (s .x) h q → p ≤ᶠ q
@@ -72,16 +75,16 @@ module _ (s : Knot) (h D : ℕ) (h-pos : 0 < h) where
   line-grows p q t t′ k =
       +ᶠ-mono (s .y)
       (Is-≤ (W-pos (den p) (omega arith)) (W-pos (den q) (omega arith)) (climb-is p t) (climb-is q t′)
-      (grow-go D h (t .U) (den p) (t′ .U) (den q) (below p q t t′ k)))
+      (grow-go D h (t .from-start) (den p) (t′ .from-start) (den q) (below p q t t′ k)))
 
   -- and rises by at most S for each unit
   line-slow : (S : ℕ) → D ≤ S * h → (p q : Fraction) → Place (s .x) h p → Place (s .x) h q → p ≤ᶠ q
       → lag S p (line-exact s h D p) ≤ᶠ lag S q (line-exact s h D q)
   unfolding line-exact
   line-slow S k p q t t′ l =
-      lag-piece S (s .x) (s .y) p q (climb p) (climb q) (t .U) (t′ .U) (D * t .U) (D * t′ .U) (1 * den p * h)
-      (1 * den q * h) (W-pos (den p) (omega arith)) (W-pos (den q) (omega arith)) (t .value) (t′ .value)
-      (climb-is p t) (climb-is q t′) (slow-go S D h (t .U) (den p) (t′ .U) (den q) k (below p q t t′ l))
+      lag-piece S (s .x) (s .y) p q (climb p) (climb q) (t .from-start) (t′ .from-start) (D * t .from-start) (D * t′ .from-start) (1 * den p * h)
+      (1 * den q * h) (W-pos (den p) (omega arith)) (W-pos (den q) (omega arith)) (t .terms) (t′ .terms)
+      (climb-is p t) (climb-is q t′) (slow-go S D h (t .from-start) (den p) (t′ .from-start) (den q) k (below p q t t′ l))
 
   -- at its two ends it has the knots' values
   pub line-start : Place (s .x) h (whole (s .x))
@@ -91,8 +94,8 @@ module _ (s : Knot) (h D : ℕ) (h-pos : 0 < h) where
       shift-whole (s .y) (s .y) 0 (sym (+ℤ-idr (s .y))) (climb-is (whole (s .x)) t) (W-pos 1 (omega arith))
       (ap (λ u. D * u) zero-U ∙ omega arith)
     where
-      zero-U : t .U ≡ 0
-      zero-U = omega (arith, Val-≤-out (t .value) (val (whole (s .x))) (≤ᶠ-refl (whole (s .x))))
+      zero-U : t .from-start ≡ 0
+      zero-U = omega (arith, Val-≤-out (t .terms) (val (whole (s .x))) (≤ᶠ-refl (whole (s .x))))
 
   line-end : (s′ : Knot) → s′ .x ≡ s .x +ℤ pos h → s′ .y ≡ s .y +ℤ pos D → Place (s .x) h (whole (s′ .x))
       → line-exact s h D (whole (s′ .x)) ≈ᶠ whole (s′ .y)
@@ -104,8 +107,8 @@ module _ (s : Knot) (h D : ℕ) (h-pos : 0 < h) where
       moved : up (s′ .x) + down (s .x) ≡ down (s′ .x) + up (s .x) + h
       moved = omega (arith, ints, e)
 
-      full-U : t .U ≡ h
-      full-U = omega (arith, moved, t .split, Val-≤-out (val (whole (s′ .x))) (t .value) (≤ᶠ-refl (whole (s′ .x))))
+      full-U : t .from-start ≡ h
+      full-U = omega (arith, moved, t .split, Val-≤-out (val (whole (s′ .x))) (t .terms) (≤ᶠ-refl (whole (s′ .x))))
 
 -- ---- the whole curve
 

@@ -31,16 +31,16 @@ pub ≤ᶠ-refl : (p : Fraction) → p ≤ᶠ p
 ≤ᶠ-refl p = ≤ᶠ-in p p (omega arith)
 
 -- transitivity in naturals: each fraction is (a - b) / (d + 1)
-trans : (a b d a′ b′ d′ a″ b″ d″ : ℕ) → a * suc d′ + b′ * suc d ≤ a′ * suc d + b * suc d′
+crosses : (a b d a′ b′ d′ a″ b″ d″ : ℕ) → a * suc d′ + b′ * suc d ≤ a′ * suc d + b * suc d′
     → a′ * suc d″ + b″ * suc d′ ≤ a″ * suc d′ + b′ * suc d″ → a * suc d″ + b″ * suc d ≤ a″ * suc d + b * suc d″
-trans a b d a′ b′ d′ a″ b″ d″ h k =
+crosses a b d a′ b′ d′ a″ b″ d″ h k =
     le-of-mul-le-mul-right {k = suc d′} (omega (arith, mul-le-mul-right (suc d″) h, mul-le-mul-right (suc d) k))
     (omega arith)
 
 pub ≤ᶠ-trans : {p q r : Fraction} → p ≤ᶠ q → q ≤ᶠ r → p ≤ᶠ r
 ≤ᶠ-trans {p} {q} {r} h k =
     ≤ᶠ-in p r
-    (trans (up (p .num)) (down (p .num)) (p .less) (up (q .num)) (down (q .num)) (q .less) (up (r .num))
+    (crosses (up (p .num)) (down (p .num)) (p .less) (up (q .num)) (down (q .num)) (q .less) (up (r .num))
     (down (r .num)) (r .less) (≤ᶠ-out h) (≤ᶠ-out k))
 
 -- the same number

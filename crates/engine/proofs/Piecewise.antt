@@ -56,7 +56,8 @@ module _ {Q A : Type 0} (_≼_ _◁_ : Q → Q → Type 0) (_⊑_ : A → A → 
         (c .low (suc i) q l (c .yes-below (suc i) q e′) k)))
         (λ e′. rw (e, e′) (piecewise-mono i p q (omega arith) h (λ _. c .not-below (suc i) q e′))))
 
--- two searches that go the same way: what holds of the first values and of each knot's values holds of the results
+-- Two searches that go the same way, be they the same or one of a whole and one of an exact curve: what holds of the first
+-- values and of each knot's values holds of the results.
 pub piecewise-both : {Q A Q′ A′ : Type 0} (R : A → A′ → Type 0) (below : ℕ → Q → Bool) (first : Q → A)
     (from : ℕ → Q → A) (below′ : ℕ → Q′ → Bool) (first′ : Q′ → A′) (from′ : ℕ → Q′ → A′) (top : ℕ) (q : Q) (q′ : Q′)
     → ((i : ℕ) → below i q ≡ below′ i q′) → R (first q) (first′ q′)

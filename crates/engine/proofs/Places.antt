@@ -15,23 +15,23 @@ use Rattle.engine.proofs.Lags.{lag, Val-lag}
 
 -- ---- one piece
 
--- where an argument stands in a piece from x of width h: u = U / d from its start and V / d from its end
+-- where an argument q stands in a piece from x of width h: q - x and x + h - q, as naturals over the denominator of q
 pub record Place (x : ℤ) (h : ℕ) (q : Fraction) : Type 0 where
-  pub U : ℕ
-  pub V : ℕ
-  pub start : Is (q -ᶠ whole x) U (den q)
-  pub split : U + V ≡ h * den q
-  pub value : Val q (up x * den q + U) (down x * den q) (den q)
+  pub from-start : ℕ
+  pub to-end : ℕ
+  pub offset : Is (q -ᶠ whole x) from-start (den q)
+  pub split : from-start + to-end ≡ h * den q
+  pub terms : Val q (up x * den q + from-start) (down x * den q) (den q)
 
 -- an argument between the ends of a piece has a place in it
 pub place : (x x′ : ℤ) (h : ℕ) (q : Fraction) → x′ ≡ x +ℤ pos h → whole x ≤ᶠ q → q ≤ᶠ whole x′ → Place x h q
 unfolding _-ᶠ_
 place x x′ h q e l r = record {
-  U = u .0;
-  V = v .0;
-  start = record { top = u .0; num-is = omega (arith, ints, u .1); same = rw one (omega arith) };
+  from-start = u .0;
+  to-end = v .0;
+  offset = record { top = u .0; num-is = omega (arith, ints, u .1); same = rw one (omega arith) };
   split = omega (arith, v .1);
-  value = record { same = omega (arith, ap (λ n. n * den q) (u .1)) };
+  terms = record { same = omega (arith, ap (λ n. n * den q) (u .1)) };
 }
   where
     one : suc (suc (q .less) * 1 - 1) ≡ suc (q .less)

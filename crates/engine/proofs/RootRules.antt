@@ -12,7 +12,7 @@ use Rattle.engine.specs.Coordinates.{Coordinate, hold}
 use Rattle.engine.specs.Curves.{Rules}
 use Rattle.engine.specs.Pieces.{width, height, line-exact, line-from, line-through}
 use Rattle.engine.specs.Root.{root-entry, root-value, root-exact, root-knot, root-curve}
-use Rattle.engine.specs.Theorems.{Plain-curves}
+use Rattle.engine.specs.Theorems.{Plain-curves-keep, Root-law}
 use Rattle.engine.proofs.Orders.{≤ᶠ-refl, ≤ᶠ-trans, ≈ᶠ-trans, ≈ᶠ-same, whole-≤, same-test}
 use Rattle.engine.proofs.Sums.{+ᶠ-up, whole-within}
 use Rattle.engine.proofs.Layers.{bare-rules}
@@ -31,7 +31,7 @@ entry-small i h =
     elim (decLe (root-entry i) 8191)
     [ yes l ↦ l | no m ↦ absurd (omega (arith, root-low (65536 * i), squares 8192 (root-entry i) (omega arith))) ]
 
--- the square of entry i + 257 would pass 65536 × (i + 1)
+-- the square of (entry i) + 257 would pass 65536 × (i + 1)
 entry-step : (i : ℕ) → root-entry (suc i) ≤ root-entry i + 256
 entry-step i =
     elim (decLe (root-entry (suc i)) (root-entry i + 256)) [
@@ -140,10 +140,11 @@ root-rules = record {
   value-high = λ x _. ≤ᶠ-trans (at-whole x .1) (+ᶠ-up _ 0);
 }
 
-pub plain-curves : Plain-curves
-plain-curves = record {
-  bare-keeps = bare-rules;
-  root-keeps = root-rules;
+pub plain-curves-keep : Plain-curves-keep
+plain-curves-keep = record { bare-keeps = bare-rules; root-keeps = root-rules }
+
+pub root-law : Root-law
+root-law = record {
   entries = λ i. root-greatest (65536 * i);
   rising = entry-mono;
   straight = straight;

@@ -6,7 +6,7 @@ use native.Mathlib.Omega.{arith}
 use lib.IntN.{ℤ, pos, _+ℤ_}
 use borrow.Author.Differences.{ints, up, down}
 use Rattle.engine.specs.Fraction.{Fraction, den, whole, _+ᶠ_, _≤ᶠ_, _≈ᶠ_}
-use Rattle.engine.specs.Coordinates.{Coordinate, Within, lowest, highest}
+use Rattle.engine.specs.Coordinates.{Coordinate, Within, furthest, lowest, highest}
 use Rattle.engine.proofs.Orders.{≤ᶠ-out, ≤ᶠ-trans, whole-≤}
 use Rattle.engine.proofs.Terms.{Is, Is-Val, Val, val, Val-+, Val-same, Val-whole, Val-≤, Val-shift, shifted}
 
@@ -111,12 +111,12 @@ shift-whole y y′ n {w} {F} {W} e i k f = (
     moved = omega (arith, ints, e)
 
 -- two fractions within the coordinates are never further apart than 16383
-pub apart : (p q : Fraction) (n : ℕ) → Within p → Within q → 16383 ≤ n → p ≤ᶠ q +ᶠ whole (pos n)
+pub apart : (p q : Fraction) (n : ℕ) → Within p → Within q → furthest ≤ n → p ≤ᶠ q +ᶠ whole (pos n)
 apart p q n fp fq h =
-    ≤ᶠ-trans (fp .high) (≤ᶠ-trans ends (≤ᶠ-trans (+ᶠ-both (whole (pos 16383)) (fq .low)) (+ᶠ-more q 16383 n h)))
+    ≤ᶠ-trans (fp .high) (≤ᶠ-trans ends (≤ᶠ-trans (+ᶠ-both (whole (pos furthest)) (fq .low)) (+ᶠ-more q furthest n h)))
   where
-    ends : whole highest ≤ᶠ whole lowest +ᶠ whole (pos 16383)
-    ends = Val-≤ (omega arith) (omega arith) (Val-whole highest) (Val-add 16383 (Val-whole lowest)) (omega arith)
+    ends : whole highest ≤ᶠ whole lowest +ᶠ whole (pos furthest)
+    ends = Val-≤ (omega arith) (omega arith) (Val-whole highest) (Val-add furthest (Val-whole lowest)) (omega arith)
 
 -- a coordinate is a fraction within the coordinates
 pub whole-within : (x : ℤ) → Coordinate x → Within (whole x)

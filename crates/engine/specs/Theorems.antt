@@ -12,7 +12,7 @@ use Rattle.engine.specs.Curves.{Meaning, Rules, bare, chain, offset, clamp}
 use Rattle.engine.specs.Pieces.{line-exact}
 use Rattle.engine.specs.Root.{root-entry, root-knot, root-value, root-exact, root-curve, Greatest-root}
 
--- fractions are ordered and computed with as the numbers that they stand for
+-- fractions are totally ordered, and their order and arithmetic extend those of whole numbers
 pub record Fraction-rules : Type 0 where
   pub reflexive : (p : Fraction) → p ≤ᶠ p
   pub transitive : (p q r : Fraction) → p ≤ᶠ q → q ≤ᶠ r → p ≤ᶠ r
@@ -32,11 +32,14 @@ pub record Rounding-rules : Type 0 where
   pub up : (q : Fraction) → Least-not-below q (ceilᶠ q)
   pub nearest : (q : Fraction) → Greatest-not-above (q +ᶠ pos 1 ÷ 2) (roundᶠ q)
 
--- The plain curves keep the rules. Each entry of root is the root that it is called, and no entry is below an earlier
--- one; the exact curve is the straight piece between neighbouring entries, and flat below the first and from the last on.
-pub record Plain-curves : Type 0 where
+-- the plain curves keep the rules
+pub record Plain-curves-keep : Type 0 where
   pub bare-keeps : Rules bare
   pub root-keeps : Rules root-curve
+
+-- Each entry of root is the root that it is called, and no entry is below an earlier one; the exact curve is the straight
+-- piece between neighbouring entries, and flat below the first and from the last on.
+pub record Root-law : Type 0 where
   pub entries : (i : ℕ) → Greatest-root (65536 * i) (root-entry i)
   pub rising : (i j : ℕ) → i ≤ j → root-entry i ≤ root-entry j
   pub straight : (i : ℕ) (q : Fraction) → i < 1023 → whole (pos i) ≤ᶠ q → q ≤ᶠ whole (pos (suc i))

@@ -30,11 +30,11 @@ pub trait Curve {
     fn value(&self, x: i32) -> i32
         ensures { λ r. ⌜ r ≡ V (now (self .entry)) (hold lowest highest x) ⌝ };
 
-    /// The rise.
+    /// The rise: over any width of at most n, for whole n, the exact value grows by at most the rise times n.
     fn rise(&self) -> u16
         ensures { λ r. ⌜ r ≡ S (now (self .entry)) ⌝ };
 
-    /// The radius.
+    /// The radius: the whole value lies at most this far from the exact value.
     fn radius(&self) -> u16
         ensures { λ r. ⌜ r ≡ R (now (self .entry)) ⌝ };
 }

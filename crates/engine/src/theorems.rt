@@ -1,8 +1,9 @@
 //! Theorems over the definitions. A function here does nothing: its contract is the theorem.
 
-ghost use Rattle.engine.specs.Theorems.{Fraction-rules, Rounding-rules, Plain-curves, Layers-keep, Worked-readings};
+ghost use Rattle.engine.specs.Theorems.{Fraction-rules, Layers-keep, Plain-curves-keep, Root-law, Rounding-rules};
+ghost use Rattle.engine.specs.Theorems.{Worked-readings};
 
-/// Fractions are ordered and computed with as the numbers that they stand for.
+/// Fractions are totally ordered, and their order and arithmetic extend those of whole numbers.
 pub fn fraction_rules()
     ensures { λ _. ⌜ Fraction-rules ⌝ }
 {}
@@ -17,10 +18,15 @@ pub fn layers_keep_the_rules()
     ensures { λ _. ⌜ Layers-keep ⌝ }
 {}
 
-/// The bare curve and the root curve keep the rules. Each entry of the root curve is the greatest whole number whose square
-/// is at most 65536 times its index, and its exact curve is the straight line between neighbouring entries, flat beyond.
+/// The bare curve and the root curve keep the rules.
 pub fn plain_curves_keep_the_rules()
-    ensures { λ _. ⌜ Plain-curves ⌝ }
+    ensures { λ _. ⌜ Plain-curves-keep ⌝ }
+{}
+
+/// Each entry of the root curve is the greatest whole number whose square is at most 65536 times its index, and its exact
+/// curve is the straight line between neighbouring entries, flat beyond.
+pub fn root_law()
+    ensures { λ _. ⌜ Root-law ⌝ }
 {}
 
 /// Readings worked by hand follow from the definitions.

@@ -1,4 +1,4 @@
--- The flow of a nozzle row: its curve keeps the rules, and its table keeps the law.
+-- The flow of a nozzle row: its table keeps the law.
 use Prim.Native.Nat.{ℕ}
 use mathlib.Core.Path.{_≡_, ap, subst, subst₃, _∙_}
 use native.Mathlib.Omega.{arith}
@@ -10,21 +10,17 @@ use Rattle.std.specs.declared.option.Option.the-variants.{Some, None}
 use Rattle.std.specs.declared.result.Result.{Result}
 use Rattle.std.specs.declared.result.Result.the-variants.{Ok, Err}
 use Rattle.engine.specs.Bands.{Is-band, band-refusal}
-use Rattle.engine.specs.Coordinates.{Coordinate}
-use Rattle.engine.specs.Curves.{Meaning, Rules, bare}
+use Rattle.engine.specs.Curves.{Meaning}
 use Rattle.engine.specs.Refusals.{Told, Outcome, told}
-use Rattle.engine.specs.Root.{root-curve}
 use Rattle.engine.specs.declared.band.Band.{Band}
 use Rattle.engine.specs.declared.refusal.Refusal.{Refusal}
-use Rattle.engine.proofs.Holds.{band-ends, hold-low, hold-high}
-use Rattle.engine.proofs.Layers.{bare-rules, chain-rules, offset-rules, clamp-rules}
-use Rattle.engine.proofs.RootRules.{root-rules}
+use Rattle.engine.proofs.Holds.{hold-low, hold-high}
 use Rattle.tabulate.specs.Flow.{Flow-curve, Flow-law, Flow-table, Piled, asked-flow, flow-of, flow-row, or-else, pile, settings-refusal}
-use Rattle.tabulate.specs.Tables.{Faithful, Is-table, step-refusal}
+use Rattle.tabulate.specs.Tables.{Faithful, Is-table, Table-law, step-refusal}
 use Rattle.tabulate.specs.declared.nozzle.Settings.{Settings}
 use Rattle.tabulate.specs.declared.table.Row.{Row}
 use Rattle.tabulate.specs.declared.table.Table.{Table}
-use Rattle.tabulate.proofs.Laws.{each-row, faithful}
+use Rattle.tabulate.proofs.Laws.{each-row}
 
 -- ---- refusals
 
@@ -51,17 +47,8 @@ table-is s limit span c t l p q h = record {
 
 -- ---- the law
 
--- the flow in the code keeps the rules
-flow-rules : (c : Flow-curve) → Rules (flow-of c)
-flow-rules c =
-    let b = c .band in
-    let e = band-ends (b .lo) (b .hi) (b .low) (b .order) (b .high) in
-    clamp-rules (b .lo) (b .hi) _ (e .0) (e .1) (b .order)
-    (offset-rules (c .below .shift) _
-    (chain-rules root-curve _ root-rules (offset-rules (c .below .below .inner .shift) bare bare-rules)))
-
-pub flow-law : (s : Settings) (t : Table Flow-curve) → Flow-table s t → Flow-law s t
-flow-law s t h = record {
+pub flow-law : (s : Settings) (t : Table Flow-curve) → Flow-table s t → Table-law (flow-of (t .curve)) t → Flow-law s t
+flow-law s t h own = record {
   faithful = subst (λ E. Faithful E (m .S) (m .R) (s .first) (s .last) (natAbs (s .step)) (flow-row t)) exact-is law;
   not-below = values (λ v. s .low ≤ℤ v) (λ x. subst (λ a. a ≤ℤ m .V x) (h .low-is) (hold-low _ _ (t .curve .band .order) _));
   not-above = values (λ v. v ≤ℤ s .high) (λ x. subst (λ b. m .V x ≤ℤ b) (h .high-is) (hold-high _ _ (t .curve .band .order) _));
@@ -76,15 +63,7 @@ flow-law s t h = record {
     step-is : t .step ≡ natAbs (s .step)
     step-is = let d = h .step-is in omega (arith, ints)
 
-    ends : Coordinate (t .span .lo) × Coordinate (t .span .hi)
-    ends = band-ends (t .span .lo) (t .span .hi) (t .span .low) (t .span .order) (t .span .high)
-
-    -- by the table's own numbers
-    own : Faithful (m .E) (m .S) (m .R) (t .span .lo) (t .span .hi) (t .step) (flow-row t)
-    own =
-        faithful m (flow-rules (t .curve)) (t .span .lo) (t .span .hi) (t .step) (ends .0) (ends .1) (t .span .order)
-        (t .some)
-
+    -- the law of the table, by the settings' numbers
     law : Faithful (m .E) (m .S) (m .R) (s .first) (s .last) (natAbs (s .step)) (flow-row t)
     law =
         subst₃ (λ first last step. Faithful (m .E) (m .S) (m .R) first last step (flow-row t)) (h .first-is) (h .last-is)
@@ -101,10 +80,11 @@ pub answer : (s : Settings) (limit span : Band) (c : Flow-curve) (r : Result (Ta
     → (band-refusal (s .low) (s .high) ≡ None) × Is-band (s .low) (s .high) limit
     → (band-refusal (s .first) (s .last) ≡ None) × Is-band (s .first) (s .last) span → Piled (s .zero) (s .trim) limit c
     → Outcome told (step-refusal (s .step)) (Is-table c span (s .step)) r
+    → Outcome told (step-refusal (s .step)) (λ t. Table-law (flow-of (t .curve)) t) r
     → Outcome told (settings-refusal s) (Flow-table s) r × Outcome told (settings-refusal s) (Flow-law s) r
-answer s limit span c (Ok t) l p q h =
+answer s limit span c (Ok t) l p q h law =
     let none = refused-later (l .0) (refused-later (p .0) (h .0)) in
     let is = table-is s limit span c t (l .1) (p .1) q (h .1) in
-    ((none, is), (none, flow-law s t is))
-answer s limit span c (Err e) l p q h =
+    ((none, is), (none, flow-law s t is (law .1)))
+answer s limit span c (Err e) l p q h law =
     let due = refused-later (l .0) (refused-later (p .0) h) in (due, due)

@@ -65,3 +65,7 @@ pub record Faithful (E : Fraction → Fraction) (rise radius : ℕ) (first last 
   pub steady : (i : ℕ) (r s : Row) → row i ≡ Some r → row (suc i) ≡ Some s → r .value ≤ℤ s .value
   pub gentle : (i : ℕ) (r s : Row) → row i ≡ Some r → row (suc i) ≡ Some s
       → s .value ≤ℤ (r .value +ℤ pos (rise * step + 2 * radius))
+
+-- a table of a curve that means m speaks for it
+abbrev pub Table-law : {C : Type 0} → Meaning → Table C → Type 0
+Table-law m t = Faithful (m .E) (m .S) (m .R) (t .span .lo) (t .span .hi) (t .step) (row-of m t)

@@ -9,6 +9,7 @@ use engine::layer::ChainCurve;
 use engine::layer::ClampCurve;
 use engine::layer::OffsetCurve;
 use engine::root::RootCurve;
+use input::read_settings;
 use nozzle::Flow;
 use nozzle::Settings;
 use nozzle::flow_bounds;
@@ -16,9 +17,9 @@ use nozzle::flow_row;
 use nozzle::tabulate;
 use std::error::AnyError;
 use std::io;
-use std::str::SplitWhitespace;
 use table::Table;
 
+mod input;
 mod nozzle;
 mod table;
 #[cfg(test)]
@@ -33,37 +34,13 @@ fn main(rt: LibcRuntime) -> Result<(), AnyError> {
 }
 
 fn run(rt: &LibcRuntime) -> Result<(), AnyError> {
-    match tabulate(read_settings(rt)?) {
+    let text = io::read_to_string(rt.alloc(), rt.stdin())?;
+    match tabulate(read_settings(text.as_str())?) {
         Ok(table) => write_table(rt, &table),
         Err(refusal) => {
             let number = refusal.number();
             Err(format!(rt.alloc(), "refused {number}")?.into())
         }
-    }
-}
-
-fn read_settings(rt: &LibcRuntime) -> Result<Settings, AnyError> {
-    let text = io::read_to_string(rt.alloc(), rt.stdin())?;
-    let mut words = text.as_str().split_whitespace();
-    let settings = Settings {
-        zero: next_number(&mut words)?,
-        trim: next_number(&mut words)?,
-        low: next_number(&mut words)?,
-        high: next_number(&mut words)?,
-        first: next_number(&mut words)?,
-        last: next_number(&mut words)?,
-        step: next_number(&mut words)?,
-    };
-    match words.next() {
-        None => Ok(settings),
-        Some(_) => Err("more than seven numbers".into()),
-    }
-}
-
-fn next_number(words: &mut SplitWhitespace<'_>) -> Result<i32, AnyError> {
-    match words.next() {
-        Some(word) => Ok(word.parse::<i32>()?),
-        None => Err("expected seven whole numbers: ZERO TRIM LOW HIGH FIRST LAST STEP".into()),
     }
 }
 

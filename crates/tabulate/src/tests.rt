@@ -1,5 +1,6 @@
 //! Worked figures, which `tests/oracle/` has too.
 
+use crate::input::read_settings;
 use crate::nozzle::Flow;
 use crate::nozzle::Settings;
 use crate::nozzle::flow_bounds;
@@ -61,4 +62,16 @@ fn a_small_table() -> Result<(), Fail> {
     check_eq(row(&table, 2), Some((4, 500)))?;
     check_eq(row(&table, 3), None)?;
     check_eq(flow_bounds(&table), (256, 0))
+}
+
+#[test]
+fn the_input_is_seven_numbers() -> Result<(), Fail> {
+    let s = read_settings(" 1 -2\n3 4\t5 6 +7\n")?;
+    check_eq((s.zero, s.trim, s.low, s.high), (1, -2, 3, 4))?;
+    check_eq((s.first, s.last, s.step), (5, 6, 7))?;
+    check(read_settings("1 2 3 4 5 6").is_err())?;
+    check(read_settings("1 2 3 4 5 6 7 8").is_err())?;
+    check(read_settings("1 2 3 4 5 6 x").is_err())?;
+    check(read_settings("1 2 3 4 5 6 2147483648").is_err())?;
+    check(read_settings("").is_err())
 }

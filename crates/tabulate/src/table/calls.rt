@@ -7,7 +7,7 @@ ghost use lib.Signed.{_≤ℤ_};
 ghost use Rattle.engine.specs.Coordinates.{Coordinate};
 ghost use Rattle.engine.specs.Means.{means};
 ghost use Rattle.engine.specs.Refusals.{Outcome, told};
-ghost use Rattle.tabulate.specs.Tables.{Is-table, count-of, reading-at, row-at, row-count, row-of, step-refusal};
+ghost use Rattle.tabulate.specs.Tables.{Is-table, Table-law, count-of, reading-at, row-at, row-count, row-of, step-refusal};
 use super::Row;
 use super::Table;
 use engine::band::Band;
@@ -18,7 +18,8 @@ use engine::refusal::Refusal;
 impl<C: Curve + Drop> Table<C> {
     /// The table of a curve over a span. Refuses 11 where the step is not from 1 to 16383.
     pub(crate) fn new(curve: C, span: Band, step: i32) -> Result<Table<C>, Refusal>
-        ensures { λ r. ⌜ Outcome told (step-refusal step) (Is-table curve span step) r ⌝ }
+        ensures answer { λ r. ⌜ Outcome told (step-refusal step) (Is-table curve span step) r ⌝ }
+        ensures law { λ r. ⌜ Outcome told (step-refusal step) (λ t. Table-law (means C·Curve (t .curve)) t) r ⌝ }
     {
         if step < 1 || step > FURTHEST {
             return Err(Refusal::OutOfLimits);

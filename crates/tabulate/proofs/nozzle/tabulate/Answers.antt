@@ -29,6 +29,7 @@ returns c =
     let limit = simp toZ-ofZ at (c .in-Continue-limit .ensures tt) in
     let span = simp toZ-ofZ at (c .in-Continue-span .ensures tt) in
     let curve = simp toZ-ofZ at (c .flow-curve .ensures) in
-    let table = simp toZ-ofZ at (c .new-3 .ensures) in
-    let out = answer (c .args .s) _ _ (c .flow-curve .result) (c .new-3 .result) limit span curve table in
+    let table = simp toZ-ofZ at (c .new-3 .ensures .answer) in
+    let law = simp toZ-ofZ at (c .new-3 .ensures .law) in
+    let out = answer (c .args .s) _ _ (c .flow-curve .result) (c .new-3 .result) limit span curve table law in
     record { answer = out .0; law = out .1 }
