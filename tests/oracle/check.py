@@ -7,7 +7,7 @@ from fractions import Fraction
 from pathlib import Path
 
 import tabulate
-from curves import Bare, Chain, Clamp, Loose, Offset, Root, band, breaches, down, hold, nearest, up, value
+from curves import Bare, Chain, Clamp, Loose, Offset, Root, band, breaches, down, hold, is_coordinate, nearest, up, value
 
 REPOSITORY = Path(__file__).resolve().parents[2]
 failures = []
@@ -24,10 +24,14 @@ def figures():
                                (Fraction(7, 3), 2, 3, 2), (Fraction(-7, 3), -3, -2, -2), (4, 4, 4, 4)]:
         equal((down(v), up(v), nearest(v)), (low, high, near), f"rounding {v}")
     equal([hold(v, 3, 8) for v in (2, 3, 5, 8, 9)], [3, 3, 5, 8, 8], "holding")
-    equal([band(*ab) for ab in [(-8193, 0), (0, 8192), (8192, -8193), (7, 6), (7, 7)]], [1, 1, 1, 11, (7, 7)], "bands")
-    equal([value(Bare(), x) for x in (-8193, -8192, 8191, 8192)], [-8192, -8192, 8191, 8191], "bare")
+    equal([is_coordinate(x) for x in (-8193, -8192, 8191, 8192)], [False, True, True, False], "coordinates")
+    equal([band(*ab) for ab in [(-8193, 0), (0, 8192), (8192, -8193), (7, 6), (7, 7), (-8192, 8191)]],
+          [1, 1, 1, 11, (7, 7), (-8192, 8191)], "bands")
+    ends = [-2**31, -8193, -8192, 8191, 8192, 2**31 - 1]
+    equal([value(Bare(), x) for x in ends], [-8192, -8192, -8192, 8191, 8191, 8191], "bare")
     root = Root()
     equal([value(root, x) for x in (-1, 0, 1, 2, 1023, 1024)], [0, 0, 256, 362, 8187, 8187], "root")
+    equal([value(root, x) for x in (-2**31, 2**31 - 1)], [0, 8187], "root beyond the coordinates")
     equal([root.E(q) for q in (Fraction(-1, 2), Fraction(1, 2), Fraction(3, 2), Fraction(2047, 2))], [0, 128, 309, 8187],
           "root between entries")
     equal(max(b - a for a, b in zip(root.entries, root.entries[1:])), 256, "the greatest step of root")
@@ -38,6 +42,7 @@ def figures():
     twice = Chain(root, root)
     equal((value(twice, 2), value(twice, 16), twice.S, twice.R), (4870, 8187, 16383, 0), "root after root")
     equal(value(Offset(Bare(), 2**31 - 1), -8192), 8191, "a shift held")
+    equal([value(Offset(Bare(), -5), x) for x in (-8190, 8191)], [-8192, 8186], "a value held")
     pile = Clamp(Offset(Chain(Clamp(root, 256, 8000), Offset(Bare(), -40)), -300), -20, 7600)
     equal([value(pile, x) for x in (-9000, 41, 42, 900, 1063)], [-20, -20, 62, 7207, 7600], "a pile of five layers")
     equal((pile.S, pile.R), (256, 0), "rise and radius of the pile")

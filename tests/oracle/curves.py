@@ -137,7 +137,7 @@ def value(curve, x):
 
 
 def breaches(curve):
-    """Where the curve breaks a rule, tried at every coordinate and at sevenths between."""
+    """Where the curve breaks a rule, tried at every coordinate x and, for the exact value, at x + 2/7 and x + 6/7 too."""
     found = []
 
     def rule(kept, what):
@@ -155,9 +155,8 @@ def breaches(curve):
     for (p, e), (q, f) in zip(exact, exact[1:]):
         rule(LOWEST <= f <= HIGHEST, f"exact value at {q} out of range")
         rule(e <= f, f"exact value falls at {q}")
-    # three places a coordinate: from p, the next ones up to p + 1, and up to p + 50
-    for n, reach in ((1, 3), (50, 150)):
-        for i in range(0, len(exact) - reach, n):
-            (p, e), (q, f) = exact[i], exact[i + reach]
-            rule(q <= p + n and f <= e + curve.S * n, f"exact value rises too much from {p} to {q}")
+    # the rise over a width of 1 from every place, and over a width of 50; shorter widths rise less, as nothing falls
+    for n in (1, 50):
+        for (p, e), (q, f) in zip(exact, exact[3 * n:]):
+            rule(q == p + n and f <= e + curve.S * n, f"exact value rises too much from {p} to {q}")
     return found

@@ -1,4 +1,4 @@
-//! Tests of the engine on worked figures. `tests/oracle/` has the same figures.
+//! Tests of the engine on worked figures. `tests/oracle/check.py` shows the oracle on them.
 
 #[cfg(test)]
 mod loose;

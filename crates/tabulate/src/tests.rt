@@ -1,4 +1,4 @@
-//! Worked figures, which `tests/oracle/` has too.
+//! Worked figures, on which `tests/oracle/check.py` shows the oracle, and texts of the input.
 
 use crate::input::read_settings;
 use crate::nozzle::Flow;
