@@ -3,8 +3,8 @@
 use crate::nozzle::Settings;
 use std::str::SplitWhitespace;
 
-/// What the input has to be.
-pub(crate) const EXPECTED: &str =
+// What the input has to be.
+const EXPECTED: &str =
     "expected seven whole numbers of 32 bits: ZERO TRIM LOW HIGH FIRST LAST STEP";
 
 /// The seven numbers of the text, or what is wrong with it.

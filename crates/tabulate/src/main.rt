@@ -11,7 +11,6 @@ use engine::layer::OffsetCurve;
 use engine::root::RootCurve;
 use input::read_settings;
 use nozzle::Flow;
-use nozzle::Settings;
 use nozzle::flow_bounds;
 use nozzle::flow_row;
 use nozzle::tabulate;

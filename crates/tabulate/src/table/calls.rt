@@ -4,10 +4,11 @@ ghost use mathlib.Core.Path.{_≡_};
 ghost use Prim.Native.Nat.{_*_, _≤_, _<_};
 ghost use lib.IntN.{pos, _+ℤ_};
 ghost use lib.Signed.{_≤ℤ_};
-ghost use Rattle.engine.specs.Coordinates.{Coordinate};
+ghost use Rattle.engine.specs.Coordinates.{Coordinate, furthest};
 ghost use Rattle.engine.specs.Means.{means};
 ghost use Rattle.engine.specs.Refusals.{Outcome, told};
-ghost use Rattle.tabulate.specs.Tables.{Is-table, Table-law, count-of, reading-at, row-at, row-count, row-of, step-refusal};
+ghost use Rattle.tabulate.specs.Tables.{Is-table, Table-law, count-of, reading-at, row-at, row-count, row-of};
+ghost use Rattle.tabulate.specs.Tables.{step-refusal};
 use super::Row;
 use super::Table;
 use engine::band::Band;
@@ -86,7 +87,7 @@ fn row_count(span: Band, step: u32) -> u32
 
 // From the first reading of the span to the last.
 fn width(span: Band) -> u32
-    ensures { λ r. ⌜ span .hi ≡ span .lo +ℤ pos r ⌝ ∗ ⌜ r ≤ 16383 ⌝ }
+    ensures { λ r. ⌜ span .hi ≡ span .lo +ℤ pos r ⌝ ∗ ⌜ r ≤ furthest ⌝ }
 {
     (span.end() - span.start()) as u32
 }
