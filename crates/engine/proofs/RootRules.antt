@@ -13,7 +13,7 @@ use Rattle.engine.specs.Curves.{Rules}
 use Rattle.engine.specs.Pieces.{width, height, line-exact, line-from, line-through}
 use Rattle.engine.specs.Root.{root-entry, root-value, root-exact, root-knot, root-curve}
 use Rattle.engine.specs.Theorems.{Plain-curves-keep, Root-law}
-use Rattle.engine.proofs.Orders.{≤ᶠ-refl, ≤ᶠ-trans, ≈ᶠ-trans, ≈ᶠ-same, whole-≤, same-test}
+use Rattle.engine.proofs.Orders.{by-test, ≤ᶠ-refl, ≤ᶠ-trans, ≈ᶠ-trans, ≈ᶠ-same, whole-≤, leᶠ-true, same-test}
 use Rattle.engine.proofs.Sums.{+ᶠ-up, whole-within}
 use Rattle.engine.proofs.Layers.{bare-rules}
 use Rattle.engine.proofs.Joins.{Joined, joined-mono, joined-rise, joined-fits, joined-before, joined-after}
@@ -75,13 +75,17 @@ straight i q l h r =
     (line-on root-knot 1023 law 256 gentle i q l h r)
 
 -- below the first entry, and from the last on, it is flat
-flat-below : (q : Fraction) → leᶠ (whole (pos 0)) q ≡ false → root-exact q ≡ whole (pos (root-entry 0))
+below-first : (q : Fraction) → leᶠ (whole (pos 0)) q ≡ false → root-exact q ≡ whole (pos (root-entry 0))
 unfolding root-exact line-through
-flat-below q e = joined-before root-knot 1023 256 (line-from root-knot 1023) joined q e
+below-first q e = joined-before root-knot 1023 256 (line-from root-knot 1023) joined q e
 
-flat-above : (q : Fraction) → whole (pos 1023) ≤ᶠ q → root-exact q ≡ whole (pos (root-entry 1023))
+from-last : (q : Fraction) → whole (pos 1023) ≤ᶠ q → root-exact q ≡ whole (pos (root-entry 1023))
 unfolding root-exact line-through
-flat-above q h = joined-after root-knot 1023 256 (line-from root-knot 1023) joined q h
+from-last q h = joined-after root-knot 1023 256 (line-from root-knot 1023) joined q h
+
+exact-mono : (p q : Fraction) → p ≤ᶠ q → root-exact p ≤ᶠ root-exact q
+unfolding root-exact line-through
+exact-mono p q h = joined-mono root-knot 1023 256 (line-from root-knot 1023) joined p q h
 
 -- ---- at a whole number it is the entry there
 
@@ -95,6 +99,14 @@ at-entry n h =
     (line-start (root-knot n) (width root-knot n) (height root-knot n) (wide root-knot 1023 law n h)
     (inside root-knot 1023 law n (whole (pos n)) h start end))
 
+-- up to the first entry: below it, or just at it
+flat-below : (q : Fraction) → q ≤ᶠ whole (pos 0) → root-exact q ≈ᶠ whole (pos (root-entry 0))
+flat-below q h = by-test (leᶠ (whole (pos 0)) q)
+    (λ t.
+    ≈ᶠ-trans (exact-mono q (whole (pos 0)) h, exact-mono (whole (pos 0)) q (leᶠ-true (whole (pos 0)) q t))
+    (at-entry 0 (omega arith)))
+    (λ f. ≈ᶠ-same (below-first q f))
+
 -- x held to 0..1023
 slot-inside : (n : ℕ) → n < 1023 → natAbs (hold (pos 0) (pos 1023) (pos n)) ≡ n
 slot-inside n h = grind (arith, ints)
@@ -103,11 +115,11 @@ slot-last : (n : ℕ) → 1023 ≤ n → natAbs (hold (pos 0) (pos 1023) (pos n)
 slot-last n h = grind (arith, ints)
 
 at-whole : (x : ℤ) → root-exact (whole x) ≈ᶠ whole (root-value x)
-at-whole (negsuc n) = ≈ᶠ-same (flat-below (whole (negsuc n)) (same-test (pos 0) (negsuc n)))
+at-whole (negsuc n) = ≈ᶠ-same (below-first (whole (negsuc n)) (same-test (pos 0) (negsuc n)))
 at-whole (pos n) = elim (decLt n 1023) [
   | yes h ↦ subst (λ i. root-exact (whole (pos n)) ≈ᶠ whole (pos (root-entry i))) (sym (slot-inside n h)) (at-entry n h)
   | no m ↦ subst (λ i. root-exact (whole (pos n)) ≈ᶠ whole (pos (root-entry i))) (sym (slot-last n (omega arith)))
-      (≈ᶠ-same (flat-above (whole (pos n)) (whole-≤ (pos 1023) (pos n) (omega (arith, ints)))))
+      (≈ᶠ-same (from-last (whole (pos n)) (whole-≤ (pos 1023) (pos n) (omega (arith, ints)))))
 ]
 
 -- ---- the rules
@@ -134,7 +146,7 @@ root-rules = record {
   exact-fits =
       λ q _. joined-fits root-knot 1023 256 (line-from root-knot 1023) joined
       (λ i l. whole-within (root-knot i .y) (law .y-fits i l)) q;
-  exact-mono = λ p q _ _ h. joined-mono root-knot 1023 256 (line-from root-knot 1023) joined p q h;
+  exact-mono = λ p q _ _ h. exact-mono p q h;
   exact-rise = λ n p q _ _ h r. joined-rise root-knot 1023 256 (line-from root-knot 1023) joined n p q h r;
   value-low = λ x _. ≤ᶠ-trans (at-whole x .0) (+ᶠ-up (whole (root-value x)) 0);
   value-high = λ x _. ≤ᶠ-trans (at-whole x .1) (+ᶠ-up _ 0);
@@ -149,5 +161,5 @@ root-law = record {
   rising = entry-mono;
   straight = straight;
   flat-below = flat-below;
-  flat-above = flat-above;
+  flat-above = λ q h. ≈ᶠ-same (from-last q h);
 }

@@ -1,11 +1,10 @@
 -- What is proved of the definitions, as statements that contracts name.
 use Prim.Native.Nat.{ℕ, suc, _-_, _*_, _≤_, _<_}
 use mathlib.Core.Path.{_≡_}
-use mathlib.Core.Bool.{false}
 use mathlib.Core.Logic.{_⊎_}
 use lib.IntN.{ℤ, pos, negsuc, _+ℤ_, _*ℤ_}
 use lib.Signed.{_≤ℤ_}
-use Rattle.engine.specs.Fraction.{Fraction, whole, _÷_, _+ᶠ_, _-ᶠ_, _*ᶠ_, _/ᶠ_, _≤ᶠ_, _≈ᶠ_, leᶠ}
+use Rattle.engine.specs.Fraction.{Fraction, whole, _÷_, _+ᶠ_, _-ᶠ_, _*ᶠ_, _/ᶠ_, _≤ᶠ_, _≈ᶠ_}
 use Rattle.engine.specs.Fraction.{floorᶠ, ceilᶠ, roundᶠ, Greatest-not-above, Least-not-below}
 use Rattle.engine.specs.Coordinates.{Coordinate}
 use Rattle.engine.specs.Curves.{Meaning, Rules, bare, chain, offset, clamp}
@@ -38,14 +37,14 @@ pub record Plain-curves-keep : Type 0 where
   pub root-keeps : Rules root-curve
 
 -- Each entry of root is the root that it is called, and no entry is below an earlier one; the exact curve is the straight
--- piece between neighbouring entries, and flat below the first and from the last on.
+-- piece between neighbouring entries, and flat up to the first and from the last on.
 pub record Root-law : Type 0 where
   pub entries : (i : ℕ) → Greatest-root (65536 * i) (root-entry i)
   pub rising : (i j : ℕ) → i ≤ j → root-entry i ≤ root-entry j
   pub straight : (i : ℕ) (q : Fraction) → i < 1023 → whole (pos i) ≤ᶠ q → q ≤ᶠ whole (pos (suc i))
       → root-exact q ≈ᶠ line-exact (root-knot i) 1 (root-entry (suc i) - root-entry i) q
-  pub flat-below : (q : Fraction) → leᶠ (whole (pos 0)) q ≡ false → root-exact q ≡ whole (pos (root-entry 0))
-  pub flat-above : (q : Fraction) → whole (pos 1023) ≤ᶠ q → root-exact q ≡ whole (pos (root-entry 1023))
+  pub flat-below : (q : Fraction) → q ≤ᶠ whole (pos 0) → root-exact q ≈ᶠ whole (pos (root-entry 0))
+  pub flat-above : (q : Fraction) → whole (pos 1023) ≤ᶠ q → root-exact q ≈ᶠ whole (pos (root-entry 1023))
 
 -- every layer over lawful curves is a lawful curve
 pub record Layers-keep : Type 0 where

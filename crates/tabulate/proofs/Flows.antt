@@ -16,7 +16,7 @@ use Rattle.engine.specs.declared.band.Band.{Band}
 use Rattle.engine.specs.declared.refusal.Refusal.{Refusal}
 use Rattle.engine.proofs.Holds.{hold-low, hold-high}
 use Rattle.tabulate.specs.Flow.{Flow-curve, Flow-law, Flow-table, Piled, asked-flow, flow-of, flow-row, or-else, pile, settings-refusal}
-use Rattle.tabulate.specs.Tables.{Faithful, Is-table, Table-law, step-refusal}
+use Rattle.tabulate.specs.Tables.{Faithful, count-of, Is-table, Table-law, step-refusal}
 use Rattle.tabulate.specs.declared.nozzle.Settings.{Settings}
 use Rattle.tabulate.specs.declared.table.Row.{Row}
 use Rattle.tabulate.specs.declared.table.Table.{Table}
@@ -49,7 +49,7 @@ table-is s limit span c t l p q h = record {
 
 pub flow-law : (s : Settings) (t : Table Flow-curve) → Flow-table s t → Table-law (flow-of (t .curve)) t → Flow-law s t
 flow-law s t h own = record {
-  faithful = subst (λ E. Faithful E (m .S) (m .R) (s .first) (s .last) (natAbs (s .step)) (flow-row t)) exact-is law;
+  faithful = subst (λ E. Faithful E (m .S) (m .R) (s .first) (s .last) (natAbs (s .step)) (count-of t) (flow-row t)) exact-is law;
   not-below = values (λ v. s .low ≤ℤ v) (λ x. subst (λ a. a ≤ℤ m .V x) (h .low-is) (hold-low _ _ (t .curve .band .order) _));
   not-above = values (λ v. v ≤ℤ s .high) (λ x. subst (λ b. m .V x ≤ℤ b) (h .high-is) (hold-high _ _ (t .curve .band .order) _));
 }
@@ -64,9 +64,9 @@ flow-law s t h own = record {
     step-is = let d = h .step-is in omega (arith, ints)
 
     -- the law of the table, by the settings' numbers
-    law : Faithful (m .E) (m .S) (m .R) (s .first) (s .last) (natAbs (s .step)) (flow-row t)
+    law : Faithful (m .E) (m .S) (m .R) (s .first) (s .last) (natAbs (s .step)) (count-of t) (flow-row t)
     law =
-        subst₃ (λ first last step. Faithful (m .E) (m .S) (m .R) first last step (flow-row t)) (h .first-is) (h .last-is)
+        subst₃ (λ first last step. Faithful (m .E) (m .S) (m .R) first last step (count-of t) (flow-row t)) (h .first-is) (h .last-is)
         step-is own
 
     -- what holds of every value of the curve holds of every row's

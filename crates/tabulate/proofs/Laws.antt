@@ -86,8 +86,11 @@ module _ (m : Meaning) (k : Rules m) (first last : ℤ) (step : ℕ) (cf : Coord
       subst (λ x. m .V x ≤ℤ (m .V (reading-at first step i) +ℤ pos (m .S * step + 2 * m .R))) (sym (next-is i))
       (value-rise m k (reading-at first step i) step (fits i (omega arith)) (subst Coordinate (next-is i) (fits (suc i) h)))
 
-  pub faithful : Faithful (m .E) (m .S) (m .R) first last step (row (m .V) first last step)
+  pub faithful : Faithful (m .E) (m .S) (m .R) first last step (row-count first last step)
+      (row (m .V) first last step)
   faithful = record {
+    counted = λ i h. (row-at (m .V) first step i, there i h);
+    below-count = λ i. each-row (m .V) first last step (λ _. i < row-count first last step) i (λ h. h);
     there = λ i h. (row-at (m .V) first step i, there i (reading-there first last step i some order h));
     inside = λ i. each-row (m .V) first last step (λ r. r .reading ≤ℤ last) i (reading-inside first last step i order);
     reads = λ i. each-row (m .V) first last step (λ r. r .reading ≡ reading-at first step i) i (λ _. refl);

@@ -16,7 +16,7 @@ use Rattle.engine.specs.declared.root.Root.{Root}
 use Rattle.engine.specs.declared.layer.chain.Chain.{Chain}
 use Rattle.engine.specs.declared.layer.offset.Offset.{Offset}
 use Rattle.engine.specs.declared.layer.clamp.Clamp.{Clamp}
-use Rattle.tabulate.specs.Tables.{step-refusal, row-of, Faithful}
+use Rattle.tabulate.specs.Tables.{step-refusal, count-of, row-of, Faithful}
 use Rattle.tabulate.specs.declared.nozzle.Settings.{Settings}
 use Rattle.tabulate.specs.declared.table.Row.{Row}
 use Rattle.tabulate.specs.declared.table.Table.{Table}
@@ -72,10 +72,10 @@ pub record Flow-table (s : Settings) (t : Table Flow-curve) : Type 0 where
 abbrev pub flow-row : Table Flow-curve → ℕ → Option Row
 flow-row t = row-of (flow-of (t .curve)) t
 
--- The rows speak for the exact flow, with the rise and the radius that the table tells, and have no flow that the valves
--- do not take.
+-- The rows speak for the exact flow, with the count, the rise and the radius that the table tells, and have no flow that
+-- the valves do not take.
 pub record Flow-law (s : Settings) (t : Table Flow-curve) : Type 0 where
   pub faithful : Faithful (asked-flow s .E) (flow-of (t .curve) .S) (flow-of (t .curve) .R) (s .first) (s .last)
-      (natAbs (s .step)) (flow-row t)
+      (natAbs (s .step)) (count-of t) (flow-row t)
   pub not-below : (i : ℕ) (r : Row) → flow-row t i ≡ Some r → s .low ≤ℤ r .value
   pub not-above : (i : ℕ) (r : Row) → flow-row t i ≡ Some r → r .value ≤ℤ s .high

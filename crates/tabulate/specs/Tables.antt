@@ -1,5 +1,5 @@
 -- A table of a curve: a row for each of the readings first, first + step, first + 2 step .. that is not above last.
-use Prim.Native.Nat.{ℕ, suc, _+_, _*_, _/_}
+use Prim.Native.Nat.{ℕ, suc, _+_, _*_, _/_, _<_}
 use mathlib.Core.Path.{_≡_}
 use mathlib.Core.Bool.{cond, _||_}
 use lib.Dec.{ltb}
@@ -51,10 +51,13 @@ row-of m t i = cond (ltb i (count-of t)) (Some (row-at (m .V) (t .span .lo) (t .
 
 -- ---- what a table is good for
 
--- The rows speak for an exact curve E from first to last, with a told rise and a told radius.
-pub record Faithful (E : Fraction → Fraction) (rise radius : ℕ) (first last : ℤ) (step : ℕ) (row : ℕ → Option Row)
-    : Type 0 where
-  -- there is a row i exactly where i steps from the first reading do not pass the last, and it has that reading
+-- The rows, `count` in number, speak for an exact curve E from first to last, with a told rise and a told radius.
+pub record Faithful (E : Fraction → Fraction) (rise radius : ℕ) (first last : ℤ) (step count : ℕ)
+    (row : ℕ → Option Row) : Type 0 where
+  -- there is a row i exactly where i is below the count
+  pub counted : (i : ℕ) → i < count → (r : Row) × (row i ≡ Some r)
+  pub below-count : (i : ℕ) (r : Row) → row i ≡ Some r → i < count
+  -- and exactly where i steps from the first reading do not pass the last, and it has that reading
   pub there : (i : ℕ) → reading-at first step i ≤ℤ last → (r : Row) × (row i ≡ Some r)
   pub inside : (i : ℕ) (r : Row) → row i ≡ Some r → r .reading ≤ℤ last
   pub reads : (i : ℕ) (r : Row) → row i ≡ Some r → r .reading ≡ reading-at first step i
@@ -68,4 +71,4 @@ pub record Faithful (E : Fraction → Fraction) (rise radius : ℕ) (first last 
 
 -- a table of a curve that means m speaks for it
 abbrev pub Table-law : {C : Type 0} → Meaning → Table C → Type 0
-Table-law m t = Faithful (m .E) (m .S) (m .R) (t .span .lo) (t .span .hi) (t .step) (row-of m t)
+Table-law m t = Faithful (m .E) (m .S) (m .R) (t .span .lo) (t .span .hi) (t .step) (count-of t) (row-of m t)
