@@ -4,11 +4,11 @@ use mathlib.Core.Path.{_≡_, ap}
 use native.Mathlib.Nat.{mul-le-mul}
 use native.Mathlib.Omega.{arith}
 use lib.IntN.{ℤ, pos, _*ℤ_}
-use borrow.Author.Differences.{up, down, product-is}
+use borrow.Author.Differences.{up, down}
 use Rattle.engine.specs.Fraction.{Fraction, den, _÷_, whole, _+ᶠ_, _-ᶠ_, _*ᶠ_, _/ᶠ_, _≤ᶠ_, _≈ᶠ_}
 use Rattle.engine.specs.Theorems.{Fraction-rules}
 use Rattle.engine.proofs.Orders.{≤ᶠ-refl, ≤ᶠ-trans, ≤ᶠ-total, whole-≤, whole-≤-out}
-use Rattle.engine.proofs.Terms.{Val, val, Val-whole, Val-≤, Val-+, Val--}
+use Rattle.engine.proofs.Terms.{Val, val, Val-whole, Val-times, Val-≤, Val-+, Val--}
 use Rattle.engine.proofs.Sums.{+ᶠ-both, whole-sum}
 
 -- ---- by terms
@@ -19,23 +19,6 @@ Val-over n d h = record { same = rw e (omega arith) }
   where
     e : suc (d - 1) ≡ d
     e = omega arith
-
--- a fraction times a natural
-Val-times : (k : ℕ) {p : Fraction} {a b d : ℕ} → Val p a b d → Val (p *ᶠ whole (pos k)) (a * k) (b * k) d
-unfolding _*ᶠ_
-Val-times k {p} {a} {b} {d} i = record {
-  same = rw (parts (p .num) .0, parts (p .num) .1, one)
-      (go (up (p .num)) (down (p .num)) (den p) (i .same));
-}
-  where
-    parts : (z : ℤ) → (up (z *ℤ pos k) ≡ up z * k) × (down (z *ℤ pos k) ≡ down z * k)
-    parts z = omega (arith, product-is z (pos k))
-
-    one : suc (suc (p .less) * 1 - 1) ≡ suc (p .less)
-    one = omega arith
-
-    go : (P N e : ℕ) → P * d + b * e ≡ a * e + N * d → P * k * d + b * k * e ≡ a * k * e + N * k * d
-    go P N e h = omega (arith, ap (λ n. n * k) h)
 
 -- a fraction over a natural
 Val-/ : (k : ℕ) → 0 < k → {p : Fraction} {a b d : ℕ} → Val p a b d → Val (p /ᶠ k) a b (d * k)

@@ -8,6 +8,7 @@ use lib.IntN.{ℤ, pos, _*ℤ_}
 use lib.Signed.{ltZ, _≤ℤ_}
 use Rattle.engine.specs.Fraction.{Fraction, whole, _+ᶠ_, _≤ᶠ_, ltᶠ}
 use Rattle.engine.specs.Coordinates.{Coordinate, Within, hold, holdᶠ, lowest, highest}
+use Rattle.engine.specs.declared.band.Band.{Band}
 use Rattle.engine.proofs.Orders.{≤ᶠ-refl, ≤ᶠ-trans, whole-≤, ltᶠ-yes, ltᶠ-no}
 use Rattle.engine.proofs.Sums.{+ᶠ-up, +ᶠ-both}
 
@@ -89,5 +90,9 @@ pub hold-coordinate : (x : ℤ) → Coordinate (hold lowest highest x)
 hold-coordinate x = record { low = grind (arith, ints); high = grind (arith, ints) }
 
 -- both ends of a band are coordinates
-pub band-ends : (a b : ℤ) → lowest ≤ℤ a → a ≤ℤ b → b ≤ℤ highest → Coordinate a × Coordinate b
-band-ends a b l o h = (record { low = l; high = omega (arith, ints) }, record { low = omega (arith, ints); high = h })
+pub band-ends : (b : Band) → Coordinate (b .lo) × Coordinate (b .hi)
+band-ends b =
+    let low : lowest ≤ℤ b .lo = b .low in
+    let order : b .lo ≤ℤ b .hi = b .order in
+    let high : b .hi ≤ℤ highest = b .high in
+    (record { low = low; high = omega (arith, ints) }, record { low = omega (arith, ints); high = high })

@@ -1,37 +1,24 @@
 -- The rise rule by monotonicity: where the lag S × q - e does not fall, e rises by at most S for each unit of q.
 use Prim.Native.Nat.{ℕ, _+_, _*_, _≤_, _<_}
-use mathlib.Core.Path.{_≡_, ap}
-use native.Mathlib.Nat.{mul-le-mul-right, le-of-mul-le-mul-right, mul-le-mul, mul-add, add-mul}
+use mathlib.Core.Path.{_≡_, refl}
+use native.Mathlib.Nat.{mul-le-mul-right, le-of-mul-le-mul-right, mul-le-mul, mul-comm, mul-add, add-mul}
 use native.Mathlib.Omega.{arith}
-use lib.IntN.{ℤ, pos, _*ℤ_}
-use borrow.Author.Differences.{up, down, product-is}
-use Rattle.engine.specs.Fraction.{Fraction, den, whole, _+ᶠ_, _-ᶠ_, _≤ᶠ_}
+use lib.IntN.{pos}
+use borrow.Author.Differences.{up, down}
+use Rattle.engine.specs.Fraction.{Fraction, den, whole, _+ᶠ_, _-ᶠ_, _*ᶠ_, _≤ᶠ_}
 use Rattle.engine.proofs.Orders.{≤ᶠ-out, ≤ᶠ-trans}
-use Rattle.engine.proofs.Terms.{Val, val, Val--, Val-≤, Val-≤-out}
+use Rattle.engine.proofs.Terms.{Val, val, Val-same, Val-times, Val--, Val-≤, Val-≤-out}
 use Rattle.engine.proofs.Sums.{Val-add}
 
 -- S times a fraction, less another
 unfoldable pub lag : ℕ → Fraction → Fraction → Fraction
-lag S q e = record { num = pos S *ℤ q .num; less = q .less } -ᶠ e
-
--- a product with a natural, by its parts
-times-parts : (S : ℕ) (z : ℤ) → (up (pos S *ℤ z) ≡ S * up z) × (down (pos S *ℤ z) ≡ S * down z)
-times-parts S z = omega (arith, product-is (pos S) z)
+lag S q e = q *ᶠ whole (pos S) -ᶠ e
 
 -- the lag by its terms
 pub Val-lag : (S : ℕ) {q e : Fraction} {a b d a′ b′ d′ : ℕ} → Val q a b d → Val e a′ b′ d′
     → Val (lag S q e) (S * a * d′ + b′ * d) (S * b * d′ + a′ * d) (d * d′)
 unfolding lag
-Val-lag S {q} {e} {a} {b} {d} i j =
-    Val--
-    (record {
-      same = rw (times-parts S (q .num) .0, times-parts S (q .num) .1)
-          (go (up (q .num)) (down (q .num)) (den q) a b d S (i .same));
-    })
-    j
-  where
-    go : (P N f a b d S : ℕ) → P * d + b * f ≡ a * f + N * d → S * P * d + S * b * f ≡ S * a * f + S * N * d
-    go P N f a b d S h = omega (arith, ap (λ n. S * n) h)
+Val-lag S {a = a} {b} i j = Val-- (Val-same (mul-comm a S) (mul-comm b S) refl (Val-times S i)) j
 
 -- the lag falls as the value rises
 pub lag-anti : (S : ℕ) (q : Fraction) {e e′ : Fraction} → e ≤ᶠ e′ → lag S q e′ ≤ᶠ lag S q e

@@ -3,7 +3,7 @@ use Prim.Native.Nat.{ℕ, zero, suc, _+_, _*_, _≤_, _<_}
 use mathlib.Core.Path.{_≡_, sym, subst}
 use mathlib.Core.Bool.{Bool, true, _&&_}
 use mathlib.Core.List.{List, [], _∷_}
-use native.Mathlib.Nat.{mul-le-mul, le-trans}
+use native.Mathlib.Nat.{mul-le-mul, le-trans, le-antisymm}
 use native.Mathlib.Decide.{decLe}
 use native.Mathlib.Omega.{arith}
 use lib.Dec.{leb, ltb}
@@ -14,9 +14,6 @@ use Rattle.engine.specs.Root.{root-up-to, root, root-entry, Greatest-root, Roo
 use Rattle.engine.proofs.Orders.{by-test}
 
 -- ---- the root of a number
-
-both : {a b : ℕ} → a ≤ b → b ≤ a → a ≡ b
-both p q = omega arith
 
 pub squares : (a b : ℕ) → a ≤ b → a * a ≤ b * b
 squares a b h = mul-le-mul h h
@@ -48,7 +45,7 @@ root-most s n h =
 
 -- a number whose square is at most n while the next square is above n is the root
 pub root-is : (s n : ℕ) → s * s ≤ n → n < suc s * suc s → s ≡ root n
-root-is s n h k = both (root-most s n h) (elim (decLe (root n) s) [
+root-is s n h k = le-antisymm (root-most s n h) (elim (decLe (root n) s) [
   | yes l ↦ l
   | no m ↦ absurd (omega (arith, root-low n, squares (suc s) (root n) (omega arith)))
 ])
@@ -61,7 +58,7 @@ root-greatest n = record { low = root-low n; greatest = λ s h. root-most s n h 
 
 -- two such numbers are the same
 pub root-one : (n s : ℕ) → Greatest-root n s → s ≡ root n
-root-one n s g = both (root-most s n (g .low)) (g .greatest (root n) (root-low n))
+root-one n s g = le-antisymm (root-most s n (g .low)) (g .greatest (root n) (root-low n))
 
 -- ---- the constant table: one test over all of it, which antt computes, carried to each entry
 

@@ -4,7 +4,7 @@ use mathlib.Core.Path.{_≡_, refl, ap, ap₂, sym, subst₃}
 use native.Mathlib.Nat.{mul-le-mul-right, le-of-mul-le-mul-right, mul-le-mul, add-mul, mul-one, one-mul}
 use native.Mathlib.Omega.{arith}
 use lib.IntN.{ℤ, pos, _+ℤ_, _-ℤ_, _*ℤ_}
-use borrow.Author.Differences.{ints, up, down}
+use borrow.Author.Differences.{ints, up, down, product-is}
 use Rattle.engine.specs.Fraction.{Fraction, den, whole, _+ᶠ_, _-ᶠ_, _*ᶠ_, _/ᶠ_, _≤ᶠ_}
 use Rattle.engine.proofs.Orders.{≤ᶠ-in, ≤ᶠ-out}
 
@@ -59,6 +59,23 @@ Is-Val {q} {a} {b} i = record { same = rw (i .num-is) (omega (arith, i .same)) }
 -- the same terms under other names
 pub Val-same : {q : Fraction} {a b d a′ b′ d′ : ℕ} → a ≡ a′ → b ≡ b′ → d ≡ d′ → Val q a b d → Val q a′ b′ d′
 Val-same {q} e f g i = subst₃ (Val q) e f g i
+
+-- a fraction times a natural
+pub Val-times : (k : ℕ) {p : Fraction} {a b d : ℕ} → Val p a b d → Val (p *ᶠ whole (pos k)) (a * k) (b * k) d
+unfolding _*ᶠ_
+Val-times k {p} {a} {b} {d} i = record {
+  same = rw (parts (p .num) .0, parts (p .num) .1, one)
+      (go (up (p .num)) (down (p .num)) (den p) (i .same));
+}
+  where
+    parts : (z : ℤ) → (up (z *ℤ pos k) ≡ up z * k) × (down (z *ℤ pos k) ≡ down z * k)
+    parts z = omega (arith, product-is z (pos k))
+
+    one : suc (suc (p .less) * 1 - 1) ≡ suc (p .less)
+    one = omega arith
+
+    go : (P N e : ℕ) → P * d + b * e ≡ a * e + N * d → P * k * d + b * k * e ≡ a * k * e + N * k * d
+    go P N e h = omega (arith, ap (λ n. n * k) h)
 
 -- a sum's numerator, in naturals
 num-+ : (p q : Fraction)

@@ -7,7 +7,9 @@ use lib.IntN.{ℤ, pos, negℤ, _+ℤ_, _-ℤ_, _*ℤ_}
 use lib.Signed.{_≤ℤ_, leZ, ltZ, shrZ}
 
 pub record Fraction : Type 0 where
+  -- the numerator
   pub num : ℤ
+  -- the denominator, less one
   pub less : ℕ
 
 -- the denominator

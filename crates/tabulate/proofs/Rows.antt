@@ -5,8 +5,6 @@ use native.Mathlib.Omega.{arith}
 use lib.IntN.{ℤ, pos, _+ℤ_, _-ℤ_, natAbs}
 use lib.Signed.{_≤ℤ_}
 use borrow.Author.Differences.{ints}
-use Rattle.engine.specs.Coordinates.{Coordinate, lowest, highest}
-use Rattle.engine.specs.declared.band.Band.{Band}
 use Rattle.tabulate.specs.Tables.{reading-at, row-count}
 use Rattle.tabulate.specs.declared.table.Row.{Row}
 
@@ -34,11 +32,3 @@ reading-inside first last step i o h = let w = way-fits first last step i h in o
 pub reading-there : (first last : ℤ) (step i : ℕ) → 1 ≤ step → first ≤ℤ last → reading-at first step i ≤ℤ last
     → i < row-count first last step
 reading-there first last step i p o h = reached (natAbs (last -ℤ first)) step i p (omega (arith, ints))
-
--- the ends of a span are coordinates
-pub span-ends : (b : Band) → Coordinate (b .lo) × Coordinate (b .hi)
-span-ends b =
-    let low : lowest ≤ℤ b .lo = b .low in
-    let order : b .lo ≤ℤ b .hi = b .order in
-    let high : b .hi ≤ℤ highest = b .high in
-    (record { low = low; high = omega (arith, ints) }, record { low = omega (arith, ints); high = high })

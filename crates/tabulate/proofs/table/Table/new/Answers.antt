@@ -6,14 +6,14 @@ use mir.Syntax.{w32}
 use borrow.Author.Needs.{needs}
 use Rattle.std.proofs.shelf.Signed.{ints}
 use Rattle.engine.specs.Means.{means}
+use Rattle.engine.proofs.Holds.{band-ends}
 use Rattle.tabulate.proofs.Laws.{faithful}
-use Rattle.tabulate.proofs.Rows.{span-ends}
 use Rattle.tabulate.proofs.table.Table.new.Needs as need
 
 -- the law of the rows comes from the rules that the curve keeps
 pub returns : need.returns
 returns g c =
-    let e = span-ends (c .args .span) in
+    let e = band-ends (c .args .span) in
     let some : 1 ≤ natAbs (toZ w32 (ofZ w32 (c .args .step))) = omega (arith, ints) in
     record {
       answer = search needs;

@@ -5,5 +5,5 @@ use Rattle.engine.proofs.layer.clamp.ClampCurve.the-impl.Needs as need
 pub keeps-law : need.keeps-law
 keeps-law g s =
     let b = s .band in
-    let ends = band-ends (b .lo) (b .hi) (b .low) (b .order) (b .high) in
+    let ends = band-ends b in
     clamp-rules (b .lo) (b .hi) _ (ends .0) (ends .1) (b .order) (g .C·Curve·met .keeps (s .below))
