@@ -3,6 +3,8 @@
 //!
 //! Nothing here allocates. `docs/curves.md` has the rules in words, `specs/` has them as definitions.
 
+#![tactic(auto)]
+
 pub mod band;
 pub mod coordinate;
 pub mod curve;

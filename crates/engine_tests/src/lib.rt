@@ -1,9 +1,9 @@
 //! Tests of the engine on worked figures. `tests/oracle/check.py` shows the oracle on them.
 
+#![tactic(auto)]
+
 #[cfg(test)]
 mod loose;
-#[cfg(test)]
-mod tables;
 
 #[cfg(test)]
 mod tests {

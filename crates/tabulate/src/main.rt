@@ -4,10 +4,13 @@
 //! Standard output gets a line `READING FLOW` for each reading, and a last line with their number, the rise and the
 //! radius. A refusal is told by its number on standard error, with status 1. `docs/tabulate.md` has it all.
 
+#![tactic(auto)]
+
 use anyhow::anyhow;
 use input::read_settings;
 use nozzle::{Flow, flow_bounds, flow_row, tabulate};
 use std::io;
+use std::process::ExitCode;
 use table::Table;
 
 mod input;
@@ -16,21 +19,27 @@ mod table;
 #[cfg(test)]
 mod tests;
 
-fn main(rt: HostRuntime) -> anyhow::Result<()> {
-    if let Err(error) = run(&rt) {
-        eprintln!(rt; "tabulate: {error}")?;
-        return Err(error);
+fn main(rt: HostRuntime) -> ExitCode {
+    match run(&rt) {
+        Ok(()) => ExitCode::SUCCESS,
+        Err(error) => {
+            let _ = eprintln!(rt; "tabulate: {error}");
+            ExitCode::FAILURE
+        }
     }
-    Ok(())
 }
 
 fn run(rt: &HostRuntime) -> anyhow::Result<()> {
     let text = io::read_to_string(rt.alloc(), rt.stdin())?;
-    match tabulate(read_settings(text.as_str())?) {
+    let settings = match read_settings(text.as_str()) {
+        Ok(settings) => settings,
+        Err(fault) => return Err(anyhow!("{fault}")),
+    };
+    match tabulate(settings) {
         Ok(table) => write_table(rt, &table),
         Err(refusal) => {
             let number = refusal.number();
-            Err(anyhow!(format!(in rt.alloc(); "refused {number}")?))
+            Err(anyhow!("refused {number}"))
         }
     }
 }

@@ -33,8 +33,8 @@ impl<C> Offset<C> {
 // A value moved by a shift.
 fn moved(v: i32, shift: i32) -> i32
     requires coordinate { Coordinate v }
-    requires least_shift_le_shift { least_shift ≤ℤ shift }
-    requires shift_le_greatest_shift { shift ≤ℤ greatest_shift }
+    requires low { least_shift ≤ℤ shift }
+    requires high { shift ≤ℤ greatest_shift }
     ensures { result ≡ v +ℤ shift }
 {
     v + shift

@@ -4,15 +4,15 @@ use Rattle.std.proofs.lemmas.Int.{to_z-of_z}
 use Rattle.tabulate.proofs.Flows.{answer, refused_first, refused_later}
 use Rattle.tabulate.proofs.nozzle.tabulate.Goals as goal
 
-pub returns-in-err-span : goal.returns-in-err-span
-returns-in-err-span c =
+pub returns-in_err-span : goal.returns-in_err-span
+returns-in_err-span c =
     let low : SFits w32 c.args.s.low = search rules in
     let high : SFits w32 c.args.s.high = search rules in
     let first : SFits w32 c.args.s.first = search rules in
     let last : SFits w32 c.args.s.last = search rules in
-    let p = err_from_is_err_and c.from-residual-in-err-span.result c.from-residual-in-err-span.ensures.1 in
-    let limit = simp to_z-of_z at c.in-ok-limit.ensures in
-    let due = refused_later limit.0 (refused_first _ (simp to_z-of_z at c.in-err-span.ensures)) in
+    let p = err_from_is_err_and c.from_residual-in_err-span.result c.from_residual-in_err-span.ensures.1 in
+    let limit = simp to_z-of_z at c.in_ok-limit.ensures in
+    let due = refused_later limit.0 (refused_first _ (simp to_z-of_z at c.in_err-span.ensures)) in
     rw (p.1, p.2) (record { answer = due; law = due })
 
 pub returns : goal.returns
@@ -24,10 +24,10 @@ returns c =
     let first : SFits w32 c.args.s.first = search rules in
     let last : SFits w32 c.args.s.last = search rules in
     let step : SFits w32 c.args.s.step = search rules in
-    let limit = simp to_z-of_z at c.in-ok-limit.ensures in
-    let span = simp to_z-of_z at c.in-ok-span.ensures in
-    let curve = simp to_z-of_z at c.flow-curve.ensures in
+    let limit = simp to_z-of_z at c.in_ok-limit.ensures in
+    let span = simp to_z-of_z at c.in_ok-span.ensures in
+    let curve = simp to_z-of_z at c.flow_curve.ensures in
     let table = simp to_z-of_z at c.new-3.ensures.answer in
     let law = simp to_z-of_z at c.new-3.ensures.law in
-    let out = answer c.args.s _ _ c.flow-curve.result c.new-3.result limit span curve table law in
+    let out = answer c.args.s _ _ c.flow_curve.result c.new-3.result limit span curve table law in
     record { answer = out.0; law = out.1 }

@@ -8,11 +8,11 @@ use Rattle.engine.proofs.Faults.{faultless_lawful, names_first}
 use Rattle.engine.proofs.table.KnotTable.load.Goals as goal
 
 -- a knot is at fault
-pub returns-in-err-check-knots : goal.returns-in-err-check-knots
-returns-in-err-check-knots c =
-    let p = err_from_is_err_and c.from-residual.result c.from-residual.ensures.1 in
+pub returns-in_err-check_knots : goal.returns-in_err-check_knots
+returns-in_err-check_knots c =
+    let p = err_from_is_err_and c.from_residual.result c.from_residual.ensures.1 in
     let ks = c.args.ks.now in
-    let fault = c.in-err-check-knots.ensures in
+    let fault = c.in_err-check_knots.ensures in
     let enough : (ltb (length ks) fewest || ltb most (length ks)) ≡ false =
     or_from _ _ (le-ltb (length ks) fewest c.if-ks-lt-FEWEST.false) (le-ltb most (length ks) c.if-ks-gt-MOST.false) in
     rw (p.1, p.2)
@@ -25,5 +25,5 @@ pub made-requires : goal.made-requires
 made-requires c = record {
   some = c.if-ks-lt-FEWEST.false;
   few = c.if-ks-gt-MOST.false;
-  ok = ap lawful c.filled.ensures ∙ faultless_lawful c.args.ks.now c.in-ok-check-knots.ensures.0;
+  ok = ap lawful c.filled.ensures ∙ faultless_lawful c.args.ks.now c.in_ok-check_knots.ensures.0;
 }

@@ -13,8 +13,8 @@ pub inserted-knots-requires : goal.inserted-knots-requires
 inserted-knots-requires c =
     let was = c.args.self.now in
     let k = c.args.k in
-    let slot = c.in-ok-slot.slot in
-    let due = subst (Due slot.start slot.end k) c.knots.ensures c.in-ok-slot.ensures in
+    let slot = c.in_ok-slot.slot in
+    let due = subst (Due slot.start slot.end k) c.knots.ensures c.in_ok-slot.ensures in
     record {
       order = due.1.order;
       inside = omega (arith, due.1.inside, size was);
@@ -26,8 +26,8 @@ pub made-requires : goal.made-requires
 made-requires c =
     let was = c.args.self.now in
     let k = c.args.k in
-    let slot = c.in-ok-slot.slot in
-    let due = subst (Due slot.start slot.end k) c.knots.ensures c.in-ok-slot.ensures in
+    let slot = c.in_ok-slot.slot in
+    let due = subst (Due slot.start slot.end k) c.knots.ensures c.in_ok-slot.ensures in
     record {
       some = put_some was k.x slot.start slot.end due.1 k.y due.0;
       few = put_fits was k.x slot.start slot.end due.1 k.y due.0;
@@ -40,8 +40,8 @@ pub returns : goal.returns
 returns c =
     let was = c.args.self.now in
     let k = c.args.k in
-    let slot = c.in-ok-slot.slot in
-    let due = subst (Due slot.start slot.end k) c.knots.ensures c.in-ok-slot.ensures in (
+    let slot = c.in_ok-slot.slot in
+    let due = subst (Due slot.start slot.end k) c.knots.ensures c.in_ok-slot.ensures in (
       due.0,
       put_done was k.x slot.start slot.end due.1 k.y due.0 c.made.result
           (c.made.ensures.knots_are

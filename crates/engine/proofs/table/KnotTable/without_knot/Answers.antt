@@ -13,9 +13,9 @@ Due start end x ks = (drop_refusal x ks ≡ None) × Slotted ks x start end
 pub made-requires : goal.made-requires
 made-requires c =
     let was = c.args.self.now in
-    let slot = c.in-ok-slot.slot in
+    let slot = c.in_ok-slot.slot in
     let x_is = to_z-of_z w32 c.args.x c.ranges.x in
-    let due = subst₂ (Due slot.start slot.end) x_is c.knots.ensures c.in-ok-slot.ensures in
+    let due = subst₂ (Due slot.start slot.end) x_is c.knots.ensures c.in_ok-slot.ensures in
     record {
       some = drop_enough was c.args.x slot.start slot.end due.1 due.0;
       few = drop_fits was c.args.x slot.start slot.end due.1 due.0;
@@ -27,9 +27,9 @@ made-requires c =
 pub returns : goal.returns
 returns c =
     let was = c.args.self.now in
-    let slot = c.in-ok-slot.slot in
+    let slot = c.in_ok-slot.slot in
     let x_is = to_z-of_z w32 c.args.x c.ranges.x in
-    let due = subst₂ (Due slot.start slot.end) x_is c.knots.ensures c.in-ok-slot.ensures in (
+    let due = subst₂ (Due slot.start slot.end) x_is c.knots.ensures c.in_ok-slot.ensures in (
       due.0,
       drop_done was c.args.x slot.start slot.end due.1 due.0 c.made.result
           (c.made.ensures.knots_are

@@ -6,5 +6,5 @@ pub returns : goal.returns
 returns c =
     let a = c.args in
     let few : a.count ≤ length a.knots.now = omega arith in
-    ap (take (a.slot.start + (a.count - a.slot.end))) c.copy-within.ensures.after
+    ap (take (a.slot.start + (a.count - a.slot.end))) c.copy_within.ensures.after
     ∙ closed a.knots.now a.count a.slot.start a.slot.end c.requires.order c.requires.inside few

@@ -29,20 +29,20 @@ module _ (c : goal.Start) where
       cube_small c.args.h c.args.d c.args.m c.args.n c.args.u c.requires.wide.0 c.requires.wide.1
       c.requires.low c.requires.inside c.requires.slopes.0 c.requires.slopes.1
 
-pub overflow-mul-gain-5 : goal.overflow-mul-gain-5
-overflow-mul-gain-5 c = record { fits = omega (arith, first c) }
+pub overflow_mul-gain-5 : goal.overflow_mul-gain-5
+overflow_mul-gain-5 c = record { fits = omega (arith, first c) }
 
-pub overflow-mul-gain-9 : goal.overflow-mul-gain-9
-overflow-mul-gain-9 c = record { fits = omega (arith, second c) }
+pub overflow_mul-gain-9 : goal.overflow_mul-gain-9
+overflow_mul-gain-9 c = record { fits = omega (arith, second c) }
 
-pub overflow-add-gain-2 : goal.overflow-add-gain-2
-overflow-add-gain-2 c = record { fits = omega (arith, first c, second c) }
+pub overflow_add-gain-2 : goal.overflow_add-gain-2
+overflow_add-gain-2 c = record { fits = omega (arith, first c, second c) }
 
-pub overflow-mul-loss-4 : goal.overflow-mul-loss-4
-overflow-mul-loss-4 c = record { fits = omega (arith, lost c) }
+pub overflow_mul-loss-4 : goal.overflow_mul-loss-4
+overflow_mul-loss-4 c = record { fits = omega (arith, lost c) }
 
-pub overflow-sub-gain : goal.overflow-sub-gain
-overflow-sub-gain c =
+pub overflow_sub-gain : goal.overflow_sub-gain
+overflow_sub-gain c =
     loss_covered c.args.h c.args.d c.args.m c.args.n c.args.u c.requires.wide.0 c.requires.wide.1
     c.requires.low c.requires.inside c.requires.slopes.0 c.requires.slopes.1
 

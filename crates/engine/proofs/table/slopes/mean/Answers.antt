@@ -16,12 +16,12 @@ pub scaled-requires : goal.scaled-requires
 scaled-requires c = (
   omega (
     arith,
-    c.mean-bottom.ensures,
+    c.mean_bottom.ensures,
     bottom_some c.args.ha c.args.da c.args.hb c.args.db c.requires.before.0 (omega arith),
   ),
   omega (
     arith,
-    c.mean-top.ensures,
+    c.mean_top.ensures,
     top_fits c.args.ha c.args.da c.args.hb c.args.db c.requires.before.1.0 c.requires.before.1.1
         c.requires.after.1.0 c.requires.after.1.1,
   ),
@@ -29,7 +29,7 @@ scaled-requires c = (
 
 pub returns : goal.returns
 returns c =
-    let quotient = c.scaled.ensures ∙ ap₂ (λ a b. 2048 * a / b) c.mean-top.ensures c.mean-bottom.ensures in
+    let quotient = c.scaled.ensures ∙ ap₂ (λ a b. 2048 * a / b) c.mean_top.ensures c.mean_bottom.ensures in
     record {
       is = ap pos quotient
           ∙ mean_is c.args.ha c.args.da c.args.hb c.args.db c.requires.before.0 c.if-da-eq0.false

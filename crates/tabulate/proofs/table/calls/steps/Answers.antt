@@ -5,8 +5,8 @@ use Rattle.tabulate.proofs.Rows.{way_fits, reading_inside}
 use Rattle.tabulate.proofs.table.calls.steps.Goals as goal
 
 -- the span's width is at most 16383
-pub overflow-mul-result : goal.overflow-mul-result
-overflow-mul-result c =
+pub overflow_mul-result : goal.overflow_mul-result
+overflow_mul-result c =
     let b = c.args.span in
     let low : lowest ≤ℤ b.lo = b.low in
     let high : b.hi ≤ℤ highest = b.high in
