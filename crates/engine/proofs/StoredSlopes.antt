@@ -1,12 +1,12 @@
 -- Stored slopes as the code computes them, and the products that fit 64 bits.
-use Rattle.std.proofs.Common.{◌≡◌, ℕ, zero, suc, ◌+◌, ◌-◌, ◌*◌, ◌/◌, ◌<◌, ◌≤◌, true, false, cond, ◌||◌, eqb, ◌⊎◌, List, length, get_or, set, ℤ, pos, sym, ap, ◌∙◌, subst, subst₂, inl, inr, le_trans, mul-le-mul_right, mul-le-mul, mul-le-mul_left, arith}
+use Rattle.std.proofs.Common.{◌≡◌, ℕ, zero, suc, ◌+◌, ◌-◌, ◌*◌, ◌/◌, ◌<◌, ◌≤◌, true, cond, ◌||◌, eqb, ◌⊎◌, List, length, get_or, set, ℤ, pos, sym, ap, ◌∙◌, subst, subst₂, inl, inr, le_trans, mul-le-mul_right, mul-le-mul, mul-le-mul_left, arith}
 use native.Mathlib.Decide.{dec_le, dec_lt}
 use Rattle.std.proofs.lemmas.List.{get_or-set_same, get_or-set_other}
 use Rattle.std.proofs.lemmas.Bool.{eq-eqb, ne_eqb, or_left, or_right, or_from}
-use Rattle.engine.specs.Fraction.{Fraction, whole, ◌÷◌, ◌*ᶠ◌}
+use Rattle.engine.specs.Fraction.{whole, ◌÷◌, ◌*ᶠ◌}
 use Rattle.engine.specs.Pieces.{width, height}
 use Rattle.engine.specs.declared.knot.Knot.{Knot}
-use Rattle.engine.specs.Knots.{knot_at}
+use Rattle.engine.specs.Knots.{curve_knots, knot_at}
 use Rattle.engine.specs.Neighbours.{piece_width, piece_height}
 use Rattle.engine.specs.Tables.{stored, secant, inner_slope, end_slope, slope}
 
@@ -98,7 +98,7 @@ module _ (ks : List Knot) where
       (piece_width (knot_at ks b) (knot_at ks c)) (piece_height (knot_at ks b) (knot_at ks c)))
 
 abbrev SlopeIs : List Knot → ℕ → ℕ → Type 0
-SlopeIs ks i r = pos r ≡ stored (slope (knot_at ks) (length ks - 1) i)
+SlopeIs ks i r = pos r ≡ stored (slope (curve_knots ks) (length ks - 1) i)
 
 pub slope_first : (ks : List Knot) (i r : ℕ) → i ≡ 0 → pos r ≡ end_at ks 0 1 → SlopeIs ks i r
 unfolding slope end_slope secant width height

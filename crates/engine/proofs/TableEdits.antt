@@ -3,7 +3,7 @@ use Rattle.std.proofs.Common.{◌≡◌, ℕ, ◌+◌, ◌-◌, ◌<◌, ◌≤�
 use Rattle.std.proofs.lemmas.List.{length-take-le, get_or-append_right, take-take}
 use Rattle.engine.specs.Fraction.{whole, ◌≈ᶠ◌}
 use Rattle.engine.specs.declared.knot.Knot.{Knot}
-use Rattle.engine.specs.Drafts.{IsTable, Slotted}
+use Rattle.engine.specs.Drafts.{Slotted}
 use Rattle.engine.specs.Edits.{knots_of, curve_of, Has, put_refusal, drop_refusal, Put, Dropped}
 use Rattle.engine.specs.Knots.{fewest, most, empty, knot, knot_at, lawful, with_knot, without_knot}
 use Rattle.engine.specs.Theorems.{TableLaw}

@@ -10,7 +10,6 @@ use Rattle.engine.specs.declared.knot.Knot.{Knot}
 use Rattle.engine.specs.Knots.{fewest, most, knot_at, fits, rightward, near, upward, neighbours}
 use Rattle.engine.specs.Knots.{with_knot, has_knot, without_knot}
 use Rattle.engine.specs.Tables.{table_curve, kind_number}
-use Rattle.engine.specs.declared.kind.Kind.{Kind}
 use Rattle.engine.specs.declared.table.KnotTable.{KnotTable}
 
 -- ---- a table

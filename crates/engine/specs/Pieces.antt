@@ -1,12 +1,12 @@
 -- Curves made of pieces between knots. The knots are given by index: `k i` for i from 0 to `top`.
 use Rattle.std.specs.Prelude.{ℕ, zero, suc, ◌<◌, ◌≤◌, Bool, cond, ℤ, pos, ◌+ℤ◌, ◌-ℤ◌, ◌≤ℤ◌, ◌<ℤ◌, ◌==◌, unsigned_abs}
 use Rattle.engine.specs.Coordinates.{Coordinate}
-use Rattle.engine.specs.declared.knot.Knot as point
 use Rattle.engine.specs.Fraction.{Fraction, whole, ◌+ᶠ◌, ◌-ᶠ◌, ◌*ᶠ◌, ◌/ᶠ◌, leᶠ}
 
 -- at x the curve has the value y
-abbrev pub Knot : Type 0
-Knot = point.Knot
+pub record Knot : Type 0 where
+  pub x : ℤ
+  pub y : ℤ
 
 -- neighbouring knots are at most 4096 apart
 abbrev pub widest : ℕ

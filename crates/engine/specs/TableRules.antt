@@ -1,9 +1,9 @@
 -- Every lawful table of any kind keeps the rules of curves.
 use Rattle.std.specs.Prelude.{◌≡◌, ℕ, ◌-◌, ◌≤◌, true, List, length}
 use Rattle.engine.specs.Curves.{Rules, meaning}
-use Rattle.engine.specs.Pieces.{Lawful}
-use Rattle.engine.specs.declared.knot.Knot.{Knot}
-use Rattle.engine.specs.Knots.{fewest, knot_at, lawful}
+use Rattle.engine.specs.Pieces.{Knot, Lawful}
+use Rattle.engine.specs.declared.knot.Knot as knot
+use Rattle.engine.specs.Knots.{fewest, curve_knots, lawful}
 use Rattle.engine.specs.Tables.{table_value, table_exact, table_rise, table_radius, table_curve}
 use Rattle.engine.specs.declared.kind.Kind.{Kind}
 use Rattle.engine.specs.declared.kind.Kind.TheVariants.{Step, Line, Cubic}
@@ -18,5 +18,5 @@ kind_rules Step = step_rules
 kind_rules Line = line_rules
 kind_rules Cubic = cubic_rules
 
-pub table_rules : (kind : Kind) (ks : List Knot) → fewest ≤ length ks → lawful ks ≡ true → Rules (table_curve kind ks)
-table_rules kind ks some ok = kind_rules kind (knot_at ks) (length ks - 1) (lawful_list ks ok some)
+pub table_rules : (kind : Kind) (ks : List knot.Knot) → fewest ≤ length ks → lawful ks ≡ true → Rules (table_curve kind ks)
+table_rules kind ks some ok = kind_rules kind (curve_knots ks) (length ks - 1) (lawful_list ks ok some)

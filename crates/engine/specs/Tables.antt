@@ -5,9 +5,9 @@ use Rattle.std.specs.Prelude.{ℕ, zero, suc, ◌+◌, ◌-◌, ◌*◌, min, ma
 use Rattle.engine.specs.Coordinates.{furthest}
 use Rattle.engine.specs.Curves.{Meaning, meaning}
 use Rattle.engine.specs.Fraction.{Fraction, whole, ◌÷◌, ◌+ᶠ◌, ◌-ᶠ◌, ◌*ᶠ◌, ◌/ᶠ◌, leᶠ, floorᶠ, ceilᶠ, roundᶠ}
-use Rattle.engine.specs.Pieces.{width, height, piecewise, line_from}
-use Rattle.engine.specs.declared.knot.Knot.{Knot}
-use Rattle.engine.specs.Knots.{knot_at}
+use Rattle.engine.specs.Pieces.{Knot, width, height, piecewise, line_from}
+use Rattle.engine.specs.declared.knot.Knot as knot
+use Rattle.engine.specs.Knots.{curve_knots}
 use Rattle.engine.specs.declared.kind.Kind.{Kind}
 use Rattle.engine.specs.declared.kind.Kind.TheVariants.{Step, Line, Cubic}
 
@@ -114,9 +114,9 @@ table_radius Cubic = 1
 
 -- ---- the table of a kind through a list of knots
 
-abbrev pub table_curve : Kind → List Knot → Meaning
+abbrev pub table_curve : Kind → List knot.Knot → Meaning
 table_curve kind ks =
-    let k : ℕ → Knot = knot_at ks in
+    let k : ℕ → Knot = curve_knots ks in
     let top : ℕ = length ks - 1 in
     meaning (table_value kind k top) (table_exact kind k top) (table_rise kind k top) (table_radius kind)
 

@@ -1,7 +1,7 @@
 //! Knot tables.
 
 ghost use Rattle.std.specs.Prelude.{◌≡◌, ℕ, ◌-◌, ◌<◌, ◌≤◌, true, length, take, pos, slice_index};
-ghost use Rattle.engine.specs.Knots.{fewest, most, lawful, knot_at};
+ghost use Rattle.engine.specs.Knots.{curve_knots, fewest, most, lawful, knot_at};
 ghost use Rattle.engine.specs.Tables.{slope, stored};
 
 use crate::kind::Kind;
@@ -34,5 +34,5 @@ pub struct KnotTable {
     ghost few: { count ≤ most },
     ghost ok: { lawful (take count knots) ≡ true },
     ghost steep: { (i : ℕ) → i < count
-        → pos (slice_index slopes i) ≡ stored (slope (knot_at (take count knots)) (count - 1) i) },
+        → pos (slice_index slopes i) ≡ stored (slope (curve_knots (take count knots)) (count - 1) i) },
 }

@@ -4,6 +4,8 @@
 
 #[cfg(test)]
 mod loose;
+#[cfg(test)]
+mod tables;
 
 #[cfg(test)]
 mod tests {

@@ -1,5 +1,5 @@
 -- The flow of a nozzle row: its table keeps the law.
-use Rattle.std.proofs.Common.{◌≡◌, ℕ, ℤ, pos, nat_abs, ◌≤ℤ◌, Some, None, Ok, Err, Option, Result, ap, ◌∙◌, subst, arith}
+use Rattle.std.proofs.Common.{◌≡◌, ℕ, ℤ, nat_abs, ◌≤ℤ◌, Some, None, Ok, Err, Option, Result, ap, ◌∙◌, subst, arith}
 use mathlib.Core.Path.{subst₃}
 use borrow.Author.Differences.{ints}
 use Rattle.engine.specs.Bands.{IsBand, band_refusal}

@@ -1,5 +1,5 @@
 -- The rows of a table: which there are, and their readings.
-use Rattle.std.proofs.Common.{ℕ, suc, ◌+◌, ◌*◌, ◌/◌, ◌<◌, ◌≤◌, ℤ, pos, ◌+ℤ◌, ◌-ℤ◌, nat_abs, ◌≤ℤ◌, mul-le-mul_right, lt_of_mul-lt-mul_right, arith}
+use Rattle.std.proofs.Common.{ℕ, suc, ◌*◌, ◌/◌, ◌<◌, ◌≤◌, ℤ, ◌-ℤ◌, nat_abs, ◌≤ℤ◌, mul-le-mul_right, lt_of_mul-lt-mul_right, arith}
 use borrow.Author.Differences.{ints}
 use Rattle.tabulate.specs.Tables.{reading_at, row_count}
 use Rattle.tabulate.specs.declared.table.Row.{Row}

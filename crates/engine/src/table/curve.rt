@@ -2,7 +2,7 @@
 
 ghost use Rattle.std.specs.Prelude.{◌≡◌, ℕ, ◌-◌, ◌<◌, ◌≤◌, max, true, length, take, pos, slice_index};
 ghost use Rattle.engine.specs.Edits.{curve_of};
-ghost use Rattle.engine.specs.Knots.{fewest, knot_at, lawful, most};
+ghost use Rattle.engine.specs.Knots.{curve_knots, fewest, knot_at, lawful, most};
 ghost use Rattle.engine.specs.Tables.{slope, stored, table_radius, table_rise, table_value};
 ghost use Rattle.std.proofs.Common.{arith};
 ghost use Rattle.std.proofs.lemmas.List.{length-take-le};
@@ -22,8 +22,8 @@ fn value_on(kind: Kind, ks: &[Knot], slopes: &[u32; 96], x: i32) -> i32
     requires few { length ks.now ≤ most }
     requires ok { lawful ks.now ≡ true }
     requires steep { (i : ℕ) → i < length ks.now
-        → pos (slice_index slopes.now i) ≡ stored (slope (knot_at ks.now) (length ks.now - 1) i) }
-    ensures { result ≡ table_value kind (knot_at ks.now) (length ks.now - 1) x }
+        → pos (slice_index slopes.now i) ≡ stored (slope (curve_knots ks.now) (length ks.now - 1) i) }
+    ensures { result ≡ table_value kind (curve_knots ks.now) (length ks.now - 1) x }
 {
     let n = count_reached(ks, x);
     if n == 0 {
@@ -39,7 +39,7 @@ fn value_on(kind: Kind, ks: &[Knot], slopes: &[u32; 96], x: i32) -> i32
 fn rise_on(kind: Kind, ks: &[Knot]) -> u16
     requires some { fewest ≤ length ks.now }
     requires ok { lawful ks.now ≡ true }
-    ensures { result ≡ table_rise kind (knot_at ks.now) (length ks.now - 1) }
+    ensures { result ≡ table_rise kind (curve_knots ks.now) (length ks.now - 1) }
 {
     let mut greatest = 0;
     for i in 1..ks.len() {

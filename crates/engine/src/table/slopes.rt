@@ -4,7 +4,7 @@ ghost use Rattle.std.specs.Prelude.{◌≡◌, ℕ, ◌+◌, ◌-◌, ◌*◌, �
 ghost use Rattle.engine.specs.Coordinates.{furthest};
 ghost use Rattle.engine.specs.Fraction.{◌÷◌};
 ghost use Rattle.engine.specs.Pieces.{widest};
-ghost use Rattle.engine.specs.Knots.{fewest, knot_at, lawful, most};
+ghost use Rattle.engine.specs.Knots.{curve_knots, fewest, knot_at, lawful, most};
 ghost use Rattle.engine.specs.Neighbours.{Piece, piece_height, piece_width};
 ghost use Rattle.engine.specs.Tables.{inner_slope as slope-between, slope, stored};
 
@@ -89,7 +89,7 @@ fn slope_at(ks: &[Knot], i: usize) -> u32
     requires some { fewest ≤ length ks.now }
     requires ok { lawful ks.now ≡ true }
     requires inside { i < length ks.now }
-    ensures { pos result ≡ stored (slope (knot_at ks.now) (length ks.now - 1) i) }
+    ensures { pos result ≡ stored (slope (curve_knots ks.now) (length ks.now - 1) i) }
 {
     if i == 0 {
         return end_slope(ks[0], ks[1]);
@@ -106,7 +106,7 @@ pub(super) fn slopes_of(ks: &[Knot]) -> [u32; 96]
     requires few { length ks.now ≤ most }
     requires ok { lawful ks.now ≡ true }
     ensures { (i : ℕ) → i < length ks.now
-        → pos (slice_index result i) ≡ stored (slope (knot_at ks.now) (length ks.now - 1) i) }
+        → pos (slice_index result i) ≡ stored (slope (curve_knots ks.now) (length ks.now - 1) i) }
 {
     let mut slopes = [0; 96];
     for i in 0..ks.len() {

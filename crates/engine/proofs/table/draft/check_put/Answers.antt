@@ -1,4 +1,4 @@
-use Rattle.std.proofs.Common.{sym, ◌∙◌, w32, SFits, rules}
+use Rattle.std.proofs.Common.{sym, w32, SFits, rules}
 use Rattle.std.proofs.lemmas.Int.{to_z-of_z}
 use Rattle.engine.proofs.KnotEdits.{put_count, put_apart, put_order, put_honoured}
 use Rattle.engine.proofs.table.draft.check_put.Goals as goal

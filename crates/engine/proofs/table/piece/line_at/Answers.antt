@@ -1,5 +1,6 @@
 use Rattle.std.proofs.Common.{◌≡◌, ◌≤◌, pos, ◌+ℤ◌, arith, w32, to_z, of_z}
 use Rattle.std.proofs.lemmas.Int.{to_z-of_z}
+use Rattle.engine.specs.Knots.{curve_knot}
 use Rattle.engine.specs.Neighbours.{piece_width, piece_height}
 use Rattle.engine.proofs.PieceBounds.{line_of}
 use Rattle.engine.proofs.table.piece.line_at.Goals as goal
@@ -12,5 +13,5 @@ returns c =
     let l : c.offset_in-u.result ≤ c.width_of-h.result = omega (arith, w, c.offset_in-u.ensures.inside) in
     let s : to_z w32 (of_z w32 c.raised.result) ≡ c.args.p.y +ℤ pos c.line_climb.result = grind (arith, to_z-of_z) in
     rw (← w, ← h)
-    (line_of c.args.p c.args.x _ c.width_of-h.result c.height_of-d.result c.offset_in-u.result
+    (line_of (curve_knot c.args.p) c.args.x _ c.width_of-h.result c.height_of-d.result c.offset_in-u.result
     c.line_climb.result c.width_of-h.ensures.some l u c.line_climb.ensures.is s)

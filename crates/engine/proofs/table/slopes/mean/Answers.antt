@@ -1,4 +1,4 @@
-use Rattle.std.proofs.Common.{◌≡◌, ◌*◌, ◌/◌, ◌≤◌, ◌⊎◌, pos, sym, ap, ◌∙◌, subst, ap₂, inl, inr, arith}
+use Rattle.std.proofs.Common.{◌*◌, ◌/◌, ◌≤◌, ◌⊎◌, pos, sym, ap, ◌∙◌, subst, ap₂, inl, inr, arith}
 use Rattle.engine.proofs.StoredSlopes.{mean_flat, mean_is, mean_small, bottom_some, top_fits}
 use Rattle.engine.proofs.table.slopes.mean.Goals as goal
 

@@ -1,4 +1,4 @@
-use Rattle.std.proofs.Common.{sym, subst, arith, w32, SFits, rules}
+use Rattle.std.proofs.Common.{sym, subst, w32, SFits, rules}
 use Rattle.std.proofs.lemmas.Int.{to_z-of_z}
 use Rattle.engine.specs.Coordinates.{Coordinate}
 use Rattle.engine.specs.Holds.{hold_coordinate}

@@ -1,0 +1,64 @@
+-- The reflectance of a sorting head: its curve and the law of its table.
+use Rattle.std.specs.Prelude.{◌≡◌, ℕ, List, [], ◌∷◌, pos, neg_ℤ, Option, unsigned_abs}
+use Rattle.engine.specs.Bands.{band_refusal}
+use Rattle.engine.specs.Curves.{Meaning}
+use Rattle.engine.specs.Refusals.{Told, or_else}
+use Rattle.engine.specs.declared.knot.Knot.{Knot}
+use Rattle.engine.specs.Edits.{curve_of, knots_of}
+use Rattle.engine.specs.Knots.{knot}
+use Rattle.engine.specs.Tables.{table_curve}
+use Rattle.engine.specs.declared.kind.Kind.TheVariants.{Cubic}
+use Rattle.engine.specs.declared.table.KnotTable.{KnotTable}
+use Rattle.tabulate.specs.Tables.{step_refusal, count_of, row_of, Faithful}
+use Rattle.tabulate.specs.declared.head.Span.{Span}
+use Rattle.tabulate.specs.declared.table.Row.{Row}
+use Rattle.tabulate.specs.declared.table.Table.{Table}
+
+-- ---- the curve
+
+-- what the head read off twelve grey tiles of known reflectance, in hundredths of a percent
+abbrev pub head_knots : List Knot
+head_knots =
+    knot (neg_ℤ (pos 6200)) (pos 0)
+    ∷ knot (neg_ℤ (pos 5100)) (pos 210)
+    ∷ knot (neg_ℤ (pos 3900)) (pos 490)
+    ∷ knot (neg_ℤ (pos 2500)) (pos 980)
+    ∷ knot (neg_ℤ (pos 1000)) (pos 1750)
+    ∷ knot (pos 400) (pos 2840)
+    ∷ knot (pos 1700) (pos 4100)
+    ∷ knot (pos 2900) (pos 5360)
+    ∷ knot (pos 4100) (pos 6420)
+    ∷ knot (pos 5300) (pos 7150)
+    ∷ knot (pos 6500) (pos 7600)
+    ∷ knot (pos 7900) (pos 7600)
+    ∷ []
+
+-- the reflectance at a reading: the monotone cubic through the knots
+abbrev pub reflectance : Meaning
+reflectance = table_curve Cubic head_knots
+
+-- ---- the answer
+
+-- the span is a band, then the step is lawful
+abbrev pub span_refusal : Span → Option Told
+span_refusal s = or_else (band_refusal s.first s.last) (step_refusal s.step)
+
+-- the table of the head's curve at these readings
+pub record ReflectanceTable (s : Span) (t : Table KnotTable) : Type 0 where
+  pub knots_are : knots_of t.curve ≡ head_knots
+  pub kind_is : t.curve.kind ≡ Cubic
+  pub first_is : t.span.lo ≡ s.first
+  pub last_is : t.span.hi ≡ s.last
+  pub step_is : pos t.step ≡ s.step
+
+-- ---- the law
+
+-- row i of a reflectance table
+abbrev pub reflectance_row : Table KnotTable → ℕ → Option Row
+reflectance_row t = row_of (curve_of t.curve) t
+
+-- the rows speak for the exact reflectance, with its rise and its radius
+abbrev pub ReflectanceLaw : Span → Table KnotTable → Type 0
+ReflectanceLaw s t =
+    Faithful reflectance.E reflectance.S reflectance.R s.first s.last (unsigned_abs s.step) (count_of t)
+    (reflectance_row t)
