@@ -3,10 +3,10 @@ use Rattle.std.proofs.Common.{◌≡◌, ℕ, suc, ◌<◌, ◌≤◌, true, fal
 use lib.Signed.{≤ℤ_refl, le_z}
 use borrow.Author.Differences.{ints}
 use Rattle.engine.specs.Fraction.{Fraction, whole, ◌≈ᶠ◌, leᶠ, roundᶠ}
-use Rattle.engine.specs.Pieces.{Knot, Lawful}
+use Rattle.engine.specs.Pieces.{Knot}
 use Rattle.engine.specs.Orders.{≤ᶠ_refl, ≈ᶠ_same, leᶠ_false, leᶠ_holds, leZ_holds}
 use Rattle.engine.specs.Piecewise.{piecewise_from, piecewise_before}
-use Rattle.engine.specs.Places.{x_strict}
+use Rattle.engine.specs.Places.{Lawful, LawfulTable, x_strict}
 use Rattle.engine.specs.Joins.{at_knot_lem}
 use Rattle.engine.specs.Lines.{line_top}
 use Rattle.engine.specs.Tables.{exact_from, value_from, table_value, table_exact}
@@ -53,23 +53,23 @@ module _ (kind : Kind) (k : ℕ → Knot) (top : ℕ) (law : Lawful k top) where
 
 -- ---- each kind from the last knot on, and at its knots
 
-module _ (k : ℕ → Knot) (top : ℕ) (law : Lawful k top) where
+module _ (k : ℕ → Knot) (top : ℕ) (law : LawfulTable k top) where
   value_top : (kind : Kind) (x : ℤ) → value_from kind k top top x ≡ (k top).y
   unfolding value_from
   value_top Step x = refl
-  value_top Line x = ap roundᶠ (line_top k top law (whole x)) ∙ round_whole (k top).y
+  value_top Line x = ap roundᶠ (line_top k top law.knots (whole x)) ∙ round_whole (k top).y
   value_top Cubic x = cubic.value_top k top law x
 
   exact_top : (kind : Kind) (q : Fraction) → exact_from kind k top top q ≡ whole (k top).y
   unfolding exact_from
   exact_top Step q = refl
-  exact_top Line q = line_top k top law q
+  exact_top Line q = line_top k top law.knots q
   exact_top Cubic q = cubic.exact_top k top law q
 
   exact_knot : (kind : Kind) (i : ℕ) → i ≤ top → exact_from kind k top i (whole (k i).x) ≈ᶠ whole (k i).y
   unfolding exact_from
   exact_knot Step i l = ≈ᶠ_same refl
-  exact_knot Line i l = at_knot_lem k top _ _ (line.lines_joined k top law) i l
+  exact_knot Line i l = at_knot_lem k top _ _ (line.lines_joined k top law.knots) i l
   exact_knot Cubic i l = at_knot_lem k top _ _ (cubic.cubics_joined k top law) i l
 
   value_knot : (kind : Kind) (i : ℕ) → i ≤ top → value_from kind k top i (k i).x ≡ (k i).y
@@ -83,11 +83,11 @@ module _ (k : ℕ → Knot) (top : ℕ) (law : Lawful k top) where
 
 -- ---- a table at its knots, and from the last on
 
-module _ (kind : Kind) (k : ℕ → Knot) (top : ℕ) (law : Lawful k top) where
+module _ (kind : Kind) (k : ℕ → Knot) (top : ℕ) (law : LawfulTable k top) where
   pub value_at : (i : ℕ) → i ≤ top → table_value kind k top (k i).x ≡ (k i).y
   value_at i l =
-      value_reached kind k top law i (k i).x l (leZ_holds (k i).x (k i).x (≤ℤ_refl (k i).x))
-      (λ s. beyond (k (suc i)).x (k i).x (law.x_rises i s))
+      value_reached kind k top law.knots i (k i).x l (leZ_holds (k i).x (k i).x (≤ℤ_refl (k i).x))
+      (λ s. beyond (k (suc i)).x (k i).x (law.knots.x_rises i s))
       ∙ value_knot k top law kind i l
     where
       beyond : (a b : ℤ) → b <ℤ a → le_z a b ≡ false
@@ -97,14 +97,14 @@ module _ (kind : Kind) (k : ℕ → Knot) (top : ℕ) (law : Lawful k top) where
   exact_at i l =
       let here = ≤ᶠ_refl (whole (k i).x) in
       subst (λ e. e ≈ᶠ whole (k i).y)
-      (sym (exact_reached kind k top law i (whole (k i).x) l (leᶠ_holds (whole (k i).x) (whole (k i).x) here)
-      (λ s. x_strict k top law i (whole (k i).x) s here)))
+      (sym (exact_reached kind k top law.knots i (whole (k i).x) l (leᶠ_holds (whole (k i).x) (whole (k i).x) here)
+      (λ s. x_strict k top law.knots i (whole (k i).x) s here)))
       (exact_knot k top law kind i l)
 
   pub value_last : (x : ℤ) → le_z (k top).x x ≡ true → table_value kind k top x ≡ (k top).y
   value_last x e =
-      value_reached kind k top law top x (omega arith) e (λ l. absurd (omega arith)) ∙ value_top k top law kind x
+      value_reached kind k top law.knots top x (omega arith) e (λ l. absurd (omega arith)) ∙ value_top k top law kind x
 
   pub exact_last : (q : Fraction) → leᶠ (whole (k top).x) q ≡ true → table_exact kind k top q ≡ whole (k top).y
   exact_last q e =
-      exact_reached kind k top law top q (omega arith) e (λ l. absurd (omega arith)) ∙ exact_top k top law kind q
+      exact_reached kind k top law.knots top q (omega arith) e (λ l. absurd (omega arith)) ∙ exact_top k top law kind q

@@ -4,13 +4,13 @@ use lib.Signed.{le_z}
 use Rattle.engine.specs.Coordinates.{Coordinate, Within, lowest, highest}
 use Rattle.engine.specs.Curves.{Rules, meaning}
 use Rattle.engine.specs.Fraction.{Fraction, whole, ◌*ᶠ◌, ◌≤ᶠ◌, ◌≈ᶠ◌, leᶠ}
-use Rattle.engine.specs.Pieces.{Knot, Lawful, width, height, line_exact}
+use Rattle.engine.specs.Pieces.{Knot, width, height, line_exact}
 use Rattle.engine.specs.declared.knot.Knot as knot
 use Rattle.engine.specs.Orders.{by_test, ≤ᶠ_trans, ≈ᶠ_trans, ≈ᶠ_same, whole-≤, leᶠ_true, leᶠ_holds}
 use Rattle.engine.specs.Orders.{≤ℤ_trans, ≤ℤ_antisym, leZ_true, leZ_holds}
 use Rattle.engine.specs.Terms.{Is-whole, Is-*, Is-≤}
 use Rattle.engine.specs.Sums.{whole_within}
-use Rattle.engine.specs.Places.{wide, x_strict}
+use Rattle.engine.specs.Places.{LawfulTable, wide, x_strict}
 use Rattle.engine.specs.Joins.{joined_on}
 use Rattle.engine.specs.Lines.{line_on}
 use Rattle.engine.specs.Knots.{fewest, curve_knots, lawful}
@@ -40,7 +40,7 @@ between_exact {a} {b} c d q h r = record {
   high = ≤ᶠ_trans r (whole-≤ b highest d.high);
 }
 
-module _ (kind : Kind) (k : ℕ → Knot) (top : ℕ) (law : Lawful k top) where
+module _ (kind : Kind) (k : ℕ → Knot) (top : ℕ) (law : LawfulTable k top) where
   abbrev V : ℤ → ℤ
   V = table_value kind k top
 
@@ -53,29 +53,29 @@ module _ (kind : Kind) (k : ℕ → Knot) (top : ℕ) (law : Lawful k top) where
   -- between two knots: neither curve falls
   value_low : (i : ℕ) (x : ℤ) → i < top → (k i).x ≤ℤ x → x ≤ℤ (k (suc i)).x → (k i).y ≤ℤ V x
   value_low i x l h r =
-      let c = law.x_fits i (omega arith) in
+      let c = law.knots.x_fits i (omega arith) in
       subst (λ v. v ≤ℤ V x) (value_at kind k top law i (omega arith))
-      (rules.value_mono (k i).x x c (between c (law.x_fits (suc i) l) x h r) h)
+      (rules.value_mono (k i).x x c (between c (law.knots.x_fits (suc i) l) x h r) h)
 
   value_high : (i : ℕ) (x : ℤ) → i < top → (k i).x ≤ℤ x → x ≤ℤ (k (suc i)).x → V x ≤ℤ (k (suc i)).y
   value_high i x l h r =
-      let d = law.x_fits (suc i) l in
+      let d = law.knots.x_fits (suc i) l in
       subst (λ v. V x ≤ℤ v) (value_at kind k top law (suc i) l)
-      (rules.value_mono x (k (suc i)).x (between (law.x_fits i (omega arith)) d x h r) d r)
+      (rules.value_mono x (k (suc i)).x (between (law.knots.x_fits i (omega arith)) d x h r) d r)
 
   exact_low : (i : ℕ) (q : Fraction) → i < top → whole (k i).x ≤ᶠ q → q ≤ᶠ whole (k (suc i)).x
       → whole (k i).y ≤ᶠ E q
   exact_low i q l h r =
-      let c = law.x_fits i (omega arith) in
+      let c = law.knots.x_fits i (omega arith) in
       ≤ᶠ_trans (exact_at kind k top law i (omega arith)).1
-      (rules.exact_mono (whole (k i).x) q (whole_within (k i).x c) (between_exact c (law.x_fits (suc i) l) q h r) h)
+      (rules.exact_mono (whole (k i).x) q (whole_within (k i).x c) (between_exact c (law.knots.x_fits (suc i) l) q h r) h)
 
   exact_high : (i : ℕ) (q : Fraction) → i < top → whole (k i).x ≤ᶠ q → q ≤ᶠ whole (k (suc i)).x
       → E q ≤ᶠ whole (k (suc i)).y
   exact_high i q l h r =
-      let d = law.x_fits (suc i) l in
+      let d = law.knots.x_fits (suc i) l in
       ≤ᶠ_trans
-      (rules.exact_mono q (whole (k (suc i)).x) (between_exact (law.x_fits i (omega arith)) d q h r)
+      (rules.exact_mono q (whole (k (suc i)).x) (between_exact (law.knots.x_fits i (omega arith)) d q h r)
       (whole_within (k (suc i)).x d) r)
       (exact_at kind k top law (suc i) l).0
 
@@ -83,15 +83,15 @@ module _ (kind : Kind) (k : ℕ → Knot) (top : ℕ) (law : Lawful k top) where
   value_before : (x : ℤ) → x ≤ℤ (k 0).x → V x ≡ (k 0).y
   value_before x h = by_test (le_z (k 0).x x)
       (λ t. subst (λ z. V z ≡ (k 0).y) (≤ℤ_antisym (leZ_true (k 0).x x t) h) (value_at kind k top law 0 (omega arith)))
-      (λ f. value_first kind k top law x f)
+      (λ f. value_first kind k top law.knots x f)
 
   exact_before : (q : Fraction) → q ≤ᶠ whole (k 0).x → E q ≈ᶠ whole (k 0).y
   exact_before q h = by_test (leᶠ (whole (k 0).x) q)
       (λ t. ≈ᶠ_trans (at (leᶠ_true (whole (k 0).x) q t)) (exact_at kind k top law 0 (omega arith)))
-      (λ f. ≈ᶠ_same (exact_first kind k top law q f))
+      (λ f. ≈ᶠ_same (exact_first kind k top law.knots q f))
     where
       c : Coordinate (k 0).x
-      c = law.x_fits 0 (omega arith)
+      c = law.knots.x_fits 0 (omega arith)
 
       at : whole (k 0).x ≤ᶠ q → E q ≈ᶠ E (whole (k 0).x)
       at t =
@@ -101,13 +101,13 @@ module _ (kind : Kind) (k : ℕ → Knot) (top : ℕ) (law : Lawful k top) where
 
 -- ---- cubics
 
-module _ (k : ℕ → Knot) (top : ℕ) (law : Lawful k top) where
+module _ (k : ℕ → Knot) (top : ℕ) (law : LawfulTable k top) where
   cubic_exact_on : (i : ℕ) (q : Fraction) → i < top → whole (k i).x ≤ᶠ q → q ≤ᶠ whole (k (suc i)).x
       → table_exact Cubic k top q ≈ᶠ cubic.exact_piece k top law i q
   unfolding table_exact
   cubic_exact_on i q l h r =
       ≈ᶠ_trans
-      (joined_on k top _ (exact_from Cubic k top) (cubic.cubics_joined k top law) (x_strict k top law) i q l h r)
+      (joined_on k top _ (exact_from Cubic k top) (cubic.cubics_joined k top law) (x_strict k top law.knots) i q l h r)
       (≈ᶠ_same (cubic.exact_is k top law i q l))
 
   -- short of the next knot, or just at it
@@ -117,14 +117,14 @@ module _ (k : ℕ → Knot) (top : ℕ) (law : Lawful k top) where
       (λ t. subst (λ z. table_value Cubic k top z ≡ cubic.value_piece k top law i z)
       (≤ℤ_antisym (leZ_true (k (suc i)).x x t) r)
       (value_at Cubic k top law (suc i) l ∙ sym (cubic.piece_end k top law i l)))
-      (λ f. value_reached Cubic k top law i x (omega arith) (leZ_holds (k i).x x h) (λ _. f)
+      (λ f. value_reached Cubic k top law.knots i x (omega arith) (leZ_holds (k i).x x h) (λ _. f)
       ∙ cubic.value_is k top law i x l)
 
   -- a slope of at most three secants, as an order of fractions
   three_secants : (i : ℕ) (m : Fraction) → i < top → Slope m (width k i) (height k i)
       → m ≤ᶠ whole (pos 3) *ᶠ secant k i
   three_secants i m l σ =
-      let w = wide k top law i l in
+      let w = wide k top law.knots i l in
       Is-≤ σ.b_pos (omega arith) σ.is (Is-* (Is-whole 3) (secant_is k i w)) (omega (arith, σ.gentle))
 
 -- ---- the laws of a list
@@ -136,7 +136,7 @@ module _ (ks : List knot.Knot) (some : fewest ≤ length ks) (ok : lawful ks ≡
   abbrev top : ℕ
   top = length ks - 1
 
-  law : Lawful k top
+  law : LawfulTable k top
   law = lawful_list ks ok some
 
   table_law : (kind : Kind) → TableLaw kind ks
@@ -157,16 +157,16 @@ module _ (ks : List knot.Knot) (some : fewest ≤ length ks) (ok : lawful ks ≡
   unfolding exact_from
   step_law = record {
     exact_on =
-        λ i q l h s. ≈ᶠ_same (exact_reached Step k top law i q (omega arith) (leᶠ_holds _ q h) (λ _. s));
-    value_is = λ x. ≈ᶠ_same (sym (step.at_whole k top law x));
+        λ i q l h s. ≈ᶠ_same (exact_reached Step k top law.knots i q (omega arith) (leᶠ_holds _ q h) (λ _. s));
+    value_is = λ x. ≈ᶠ_same (sym (step.at_whole k top law.knots x));
   }
 
   line_law : LineLaw ks
   line_law = record {
     exact_on =
-        λ i q l h r. subst (λ e. e ≈ᶠ line_exact (k i) (width k i) (height k i) q) (sym (line.exact_is k top law q))
-        (line_on k top law _ (line.gentle k top law) i q (omega arith) h r);
-    value_is = λ x. line.value_is k top law x;
+        λ i q l h r. subst (λ e. e ≈ᶠ line_exact (k i) (width k i) (height k i) q) (sym (line.exact_is k top law.knots q))
+        (line_on k top law.knots _ (line.gentle k top law.knots) i q (omega arith) h r);
+    value_is = λ x. line.value_is k top law.knots x;
   }
 
   cubic_law : CubicLaw ks

@@ -5,7 +5,8 @@ use borrow.Author.Differences.{ints}
 use Rattle.std.proofs.lemmas.Bool.{ne_eqb}
 use Rattle.engine.specs.Coordinates.{furthest}
 use Rattle.engine.specs.Fraction.{Fraction, whole, roundᶠ}
-use Rattle.engine.specs.Pieces.{Lawful, width, height}
+use Rattle.engine.specs.Pieces.{width, height}
+use Rattle.engine.specs.Places.{LawfulTable}
 use Rattle.engine.specs.Pieces as curve
 use Rattle.engine.specs.declared.knot.Knot.{Knot}
 use Rattle.engine.specs.Lines.{line_piece}
@@ -38,14 +39,14 @@ gentle_number {h = h} {D} σ c e =
 abbrev as_curve : (ℕ → Knot) → ℕ → curve.Knot
 as_curve k i = curve_knot (k i)
 
-module _ (k : ℕ → Knot) (top : ℕ) (law : Lawful (as_curve k) top) where
+module _ (k : ℕ → Knot) (top : ℕ) (law : LawfulTable (as_curve k) top) where
   -- the value from knot i on is that of its piece
   piece_is : (kind : Kind) (i : ℕ) (x : ℤ) → i < top
       → value_from kind (as_curve k) top i x
       ≡ piece_value kind (k i) (k (suc i)) (stored (slope (as_curve k) top i)) (stored (slope (as_curve k) top (suc i))) x
   unfolding value_from width height
   piece_is Step i x l = refl
-  piece_is Line i x l = ap roundᶠ (line_piece (as_curve k) top law i (whole x) l)
+  piece_is Line i x l = ap roundᶠ (line_piece (as_curve k) top law.knots i (whole x) l)
   piece_is Cubic i x l = let e : eqb i top ≡ false = ne_eqb i top (λ n. omega arith) in rw e refl
 
   start_gentle : (i c : ℕ) → i < top → pos c ≡ stored (slope (as_curve k) top i) → Gentle (k i) (k (suc i)) c
@@ -65,13 +66,13 @@ module _ (ks : List Knot) (some : fewest ≤ length ks) (ok : lawful ks ≡ true
   abbrev top : ℕ
   top = length ks - 1
 
-  law : Lawful (curve_knots ks) top
+  law : LawfulTable (curve_knots ks) top
   law = lawful_list ks ok some
 
   -- none
   pub none_reached : (kind : Kind) (n : ℕ) → Reached ks x n → n ≡ 0 → (k 0).y ≡ table_value kind (curve_knots ks) top x
   none_reached kind n r e =
-      sym (value_first kind (curve_knots ks) top law x
+      sym (value_first kind (curve_knots ks) top law.knots x
       (subst (λ i. le_z (k i).x x ≡ false) e (r.short (omega arith))))
 
   -- all
@@ -115,7 +116,7 @@ module _ (ks : List Knot) (some : fewest ≤ length ks) (ok : lawful ks ≡ true
           ≡ table_value kind (curve_knots ks) top x
       reached_value kind =
           ap₂ (λ M M'. piece_value kind (k (n - 1)) (k n) M M' x) (steep (n - 1) (omega arith)) (steep n short)
-          ∙ sym (value_reached kind (curve_knots ks) top law (n - 1) x (omega arith) (r.from begun) beyond
+          ∙ sym (value_reached kind (curve_knots ks) top law.knots (n - 1) x (omega arith) (r.from begun) beyond
           ∙ subst (λ i. value_from kind (curve_knots ks) top (n - 1) x
           ≡ piece_value kind (k (n - 1)) (k i) (stored (slope (curve_knots ks) top (n - 1))) (stored (slope (curve_knots ks) top i)) x) next
           (piece_is k top law kind (n - 1) x inner))
@@ -148,12 +149,12 @@ steepest_turn kind k (suc i) a r s l inv told up =
 held : (a : ℕ) → a ≤ furthest → min a furthest ≡ a
 held a h = omega arith
 
-steepest_is : (kind : Kind) (k : ℕ → Knot) (top : ℕ) → Lawful (as_curve k) top
+steepest_is : (kind : Kind) (k : ℕ → Knot) (top : ℕ) → LawfulTable (as_curve k) top
     → min (steepest kind k top) furthest ≡ table_rise kind (as_curve k) top
 unfolding steepest table_rise width height secant
-steepest_is Step k top law = held _ (kind_rules Step (as_curve k) top law).rise_fits
-steepest_is Line k top law = held _ (kind_rules Line (as_curve k) top law).rise_fits
-steepest_is Cubic k top law = refl
+steepest_is Step k n lawful = held _ (kind_rules Step (as_curve k) n lawful).rise_fits
+steepest_is Line k n lawful = held _ (kind_rules Line (as_curve k) n lawful).rise_fits
+steepest_is Cubic k n lawful = refl
 
 pub steepest_end : (kind : Kind) (ks : List Knot) (i a r : ℕ) → fewest ≤ length ks → lawful ks ≡ true → i ≤ length ks
     → length ks ≤ i → a ≡ steepest kind (knot_at ks) (i - 1) → r ≡ min a furthest

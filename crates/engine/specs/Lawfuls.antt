@@ -3,8 +3,8 @@ use Rattle.std.specs.Prelude.{◌≡◌, ℕ, zero, suc, ◌+◌, ◌-◌, ◌<�
 use Rattle.std.proofs.Common.{subst, arith}
 use Rattle.std.proofs.lemmas.Int.{ints}
 use Rattle.std.proofs.lemmas.Bool.{and_parts}
+use Rattle.engine.specs.Places.{LawfulTable}
 use Rattle.engine.specs.Coordinates.{Coordinate, coordinate, lowest}
-use Rattle.engine.specs.Pieces.{Lawful}
 use Rattle.engine.specs.declared.knot.Knot.{Knot}
 use Rattle.engine.specs.Orders.{leZ_true}
 use Rattle.engine.specs.Knots.{fewest, knot_at, curve_knots, fits, each, neighbours, rightward, near, upward, lawful}
@@ -53,13 +53,15 @@ module _ (ks : List Knot) (ok : lawful ks ≡ true) where
       let p = and_parts (coordinate (knot_at ks i).x) _ (each_at fits ks parts.0 i l) in
       (is_coordinate_lem _ p.0, is_coordinate_lem _ p.1)
 
-  pub lawful_list : fewest ≤ length ks → Lawful (curve_knots ks) (length ks - 1)
+  pub lawful_list : fewest ≤ length ks → LawfulTable (curve_knots ks) (length ks - 1)
   lawful_list some = record {
-    x_fits = λ i l. (fits_at i (omega arith)).0;
-    y_fits = λ i l. (fits_at i (omega arith)).1;
-    x_rises = λ i l. ltZ_true _ _ (neighbours_at rightward ks parts.1 i (omega arith));
+    knots = record {
+      x_fits = λ i l. (fits_at i (omega arith)).0;
+      y_fits = λ i l. (fits_at i (omega arith)).1;
+      x_rises = λ i l. ltZ_true _ _ (neighbours_at rightward ks parts.1 i (omega arith));
+      y_rises = λ i l. leZ_true _ _ (neighbours_at upward ks parts.3 i (omega arith));
+    };
     x_near = λ i l. leZ_true _ _ (neighbours_at near ks parts.2 i (omega arith));
-    y_rises = λ i l. leZ_true _ _ (neighbours_at upward ks parts.3 i (omega arith));
   }
 
   -- the piece from knot i to the next

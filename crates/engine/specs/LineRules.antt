@@ -6,12 +6,12 @@ use Rattle.std.proofs.Common.{mul-le-mul_left, le_trans, arith}
 use Rattle.engine.specs.Coordinates.{Coordinate, Within, lowest, highest, furthest}
 use Rattle.engine.specs.Curves.{Rules, meaning}
 use Rattle.engine.specs.Fraction.{Fraction, whole, ◌+ᶠ◌, ◌≤ᶠ◌, leᶠ, roundᶠ}
-use Rattle.engine.specs.Pieces.{Knot, Lawful, width, height, line_exact, line_from, line_through}
+use Rattle.engine.specs.Pieces.{Knot, width, height, line_exact, line_from, line_through}
 use Rattle.engine.specs.Orders.{whole-≤, same_test}
 use Rattle.engine.specs.Terms.{Is-as}
 use Rattle.engine.specs.Sums.{whole_within}
 use Rattle.engine.specs.Piecewise.{piecewise_both}
-use Rattle.engine.specs.Places.{Place, wide}
+use Rattle.engine.specs.Places.{Lawful, Place, wide}
 use Rattle.engine.specs.Joins.{Joined, joined_mono, joined_rise, joined_fits}
 use Rattle.engine.specs.Lines.{climb_is, line_joined}
 use Rattle.engine.specs.Tables.{secant, exact_from, value_from, greatest, round_up}

@@ -7,12 +7,12 @@ use Rattle.std.proofs.Math.IntN.{+ℤ_idr}
 use borrow.Author.Differences.{ints, up, down}
 use borrow.Author.Tests.{eq-eqb, ne_eqb}
 use Rattle.engine.specs.Fraction.{Fraction, den, whole, ◌-ᶠ◌, ◌*ᶠ◌, ◌/ᶠ◌, ◌≤ᶠ◌, ◌≈ᶠ◌, leᶠ}
-use Rattle.engine.specs.Pieces.{Knot, Lawful, width, height, piecewise, line_exact, line_from, line_through}
+use Rattle.engine.specs.Pieces.{Knot, width, height, piecewise, line_exact, line_from, line_through}
 use Rattle.engine.specs.Orders.{≤ᶠ_refl, ≤ᶠ_trans, whole-≤}
 use Rattle.engine.specs.Terms.{Is, Is-whole, Is-*, Is-/, Is-≤, val, Val-≤_out}
 use Rattle.engine.specs.Sums.{+ᶠ_mono, shift_whole}
 use Rattle.engine.specs.Lags.{lag}
-use Rattle.engine.specs.Places.{Place, lag_piece, x_is, y_is, x_order, x_strict, wide, inside, start_place, end_place}
+use Rattle.engine.specs.Places.{Lawful, Place, lag_piece, x_is, y_is, x_order, x_strict, wide, inside, start_place, end_place}
 use Rattle.engine.specs.Joins.{Joined, joined_on}
 
 -- ---- the arithmetic, with each product by itself

@@ -1,6 +1,5 @@
 -- Curves made of pieces between knots. The knots are given by index: `k i` for i from 0 to `top`.
-use Rattle.std.specs.Prelude.{ℕ, zero, suc, ◌<◌, ◌≤◌, Bool, cond, ℤ, pos, ◌+ℤ◌, ◌-ℤ◌, ◌≤ℤ◌, ◌<ℤ◌, ◌==◌, unsigned_abs}
-use Rattle.engine.specs.Coordinates.{Coordinate}
+use Rattle.std.specs.Prelude.{ℕ, zero, suc, Bool, cond, ℤ, pos, ◌-ℤ◌, ◌==◌, unsigned_abs}
 use Rattle.engine.specs.Fraction.{Fraction, whole, ◌+ᶠ◌, ◌-ᶠ◌, ◌*ᶠ◌, ◌/ᶠ◌, leᶠ}
 
 -- at x the curve has the value y
@@ -11,15 +10,6 @@ pub record Knot : Type 0 where
 -- neighbouring knots are at most 4096 apart
 abbrev pub widest : ℕ
 widest = 4096
-
--- Both parts of a knot are coordinates; each x is above the one before by at most 4096, and no y is below the one
--- before.
-pub record Lawful (k : ℕ → Knot) (top : ℕ) : Type 0 where
-  pub x_fits : (i : ℕ) → i ≤ top → Coordinate (k i).x
-  pub y_fits : (i : ℕ) → i ≤ top → Coordinate (k i).y
-  pub x_rises : (i : ℕ) → i < top → (k i).x <ℤ (k (suc i)).x
-  pub x_near : (i : ℕ) → i < top → (k (suc i)).x ≤ℤ ((k i).x +ℤ pos widest)
-  pub y_rises : (i : ℕ) → i < top → (k i).y ≤ℤ (k (suc i)).y
 
 -- the width h and the height D of the piece from knot i to knot i + 1
 unfoldable pub width : (ℕ → Knot) → ℕ → ℕ

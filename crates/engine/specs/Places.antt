@@ -1,10 +1,11 @@
 -- Places in a piece, and the knots of a lawful curve.
-use Rattle.std.specs.Prelude.{◌≡◌, ℕ, suc, ◌+◌, ◌-◌, ◌*◌, ◌<◌, ◌≤◌, false, ℤ, pos, ◌+ℤ◌, ◌-ℤ◌, ◌≤ℤ◌, unsigned_abs}
+use Rattle.std.specs.Prelude.{◌≡◌, ℕ, suc, ◌+◌, ◌-◌, ◌*◌, ◌<◌, ◌≤◌, false, ℤ, pos, ◌+ℤ◌, ◌-ℤ◌, ◌≤ℤ◌, ◌<ℤ◌, unsigned_abs}
 use Rattle.std.proofs.Common.{ap, mul-le-mul, arith}
 use Rattle.std.proofs.Math.Nat.{le_dest}
 use borrow.Author.Differences.{ints, up, down}
+use Rattle.engine.specs.Coordinates.{Coordinate}
 use Rattle.engine.specs.Fraction.{Fraction, den, whole, ◌+ᶠ◌, ◌-ᶠ◌, ◌≤ᶠ◌, leᶠ}
-use Rattle.engine.specs.Pieces.{Knot, Lawful, width, height}
+use Rattle.engine.specs.Pieces.{Knot, widest, width, height}
 use Rattle.engine.specs.Orders.{by_test, ≤ᶠ_out, ≤ᶠ_refl, ≤ᶠ_trans, whole-≤, whole-≤_out, leᶠ_true}
 use Rattle.engine.specs.Terms.{Is, Is-Val, Val, Val-shift, Val-≤, shifted}
 use Rattle.engine.specs.Lags.{lag, Val-lag}
@@ -69,6 +70,13 @@ lag_piece S x y p q w w' U U' F F' W W' k k' i j v v' h =
 
 -- ---- lawful knots
 
+-- Both parts of a knot are coordinates; each x is above the one before, and no y is below the one before.
+pub record Lawful (k : ℕ → Knot) (top : ℕ) : Type 0 where
+  pub x_fits : (i : ℕ) → i ≤ top → Coordinate (k i).x
+  pub y_fits : (i : ℕ) → i ≤ top → Coordinate (k i).y
+  pub x_rises : (i : ℕ) → i < top → (k i).x <ℤ (k (suc i)).x
+  pub y_rises : (i : ℕ) → i < top → (k i).y ≤ℤ (k (suc i)).y
+
 -- a number and its way to a greater one
 pub way : (a b : ℤ) → a ≤ℤ b → b ≡ a +ℤ pos (unsigned_abs (b -ℤ a))
 way a b h = omega (arith, ints)
@@ -85,9 +93,6 @@ module _ (k : ℕ → Knot) (top : ℕ) (law : Lawful k top) where
 
   pub wide : (i : ℕ) → i < top → 0 < width k i
   wide i l = let h = law.x_rises i l in let e = x_is i l in omega (arith, ints)
-
-  pub narrow : (i : ℕ) → i < top → width k i ≤ 4096
-  narrow i l = let h = law.x_near i l in let e = x_is i l in omega (arith, ints)
 
   pub x_order : (i : ℕ) → i < top → whole (k i).x ≤ᶠ whole (k (suc i)).x
   x_order i l = let h = law.x_rises i l in whole-≤ (k i).x (k (suc i)).x (omega (arith, ints))
@@ -112,3 +117,11 @@ module _ (k : ℕ → Knot) (top : ℕ) (law : Lawful k top) where
 
   pub end_place : (i : ℕ) → i < top → Place (k i).x (width k i) (whole (k (suc i)).x)
   end_place i l = inside i (whole (k (suc i)).x) l (x_order i l) (≤ᶠ_refl (whole (k (suc i)).x))
+
+-- the knots of a table: lawful, and neighbours are at most 4096 apart
+pub record LawfulTable (k : ℕ → Knot) (top : ℕ) : Type 0 where
+  pub knots : Lawful k top
+  pub x_near : (i : ℕ) → i < top → (k (suc i)).x ≤ℤ ((k i).x +ℤ pos widest)
+
+pub narrow : (k : ℕ → Knot) (top : ℕ) → LawfulTable k top → (i : ℕ) → i < top → width k i ≤ widest
+narrow k top law i l = let h = law.x_near i l in let e = x_is k top law.knots i l in omega (arith, ints)

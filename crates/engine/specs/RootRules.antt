@@ -6,14 +6,14 @@ use Rattle.std.proofs.lemmas.Int.{ints}
 use Rattle.engine.specs.Fraction.{Fraction, whole, ◌≤ᶠ◌, ◌≈ᶠ◌, leᶠ}
 use Rattle.engine.specs.Coordinates.{Coordinate, hold}
 use Rattle.engine.specs.Curves.{Rules}
-use Rattle.engine.specs.Pieces.{Lawful, width, height, line_exact, line_from, line_through}
+use Rattle.engine.specs.Pieces.{width, height, line_exact, line_from, line_through}
 use Rattle.engine.specs.Root.{root_entry, root_value, root_exact, root_knot, root_curve}
 use Rattle.engine.specs.Theorems.{PlainCurvesKeep, RootLaw}
 use Rattle.engine.specs.Orders.{by_test, ≤ᶠ_refl, ≤ᶠ_trans, ≈ᶠ_trans, ≈ᶠ_same, whole-≤, leᶠ_true, same_test}
 use Rattle.engine.specs.Sums.{+ᶠ_up, whole_within}
 use Rattle.engine.specs.Layers.{bare_rules}
 use Rattle.engine.specs.Joins.{Joined, joined_mono, joined_rise, joined_fits, joined_before, joined_after}
-use Rattle.engine.specs.Places.{wide, inside, x_order}
+use Rattle.engine.specs.Places.{Lawful, wide, inside, x_order}
 use Rattle.engine.specs.Lines.{line_joined, line_on, line_start}
 use Rattle.engine.specs.Roots.{squares, root_low, root_high, root_mono, root_greatest}
 
@@ -42,7 +42,6 @@ law = record {
   x_fits = λ i h. record { low = omega (arith, ints); high = omega (arith, ints) };
   y_fits = λ i h. let s = entry_small i h in record { low = omega (arith, ints); high = omega (arith, ints) };
   x_rises = λ i h. omega (arith, ints);
-  x_near = λ i h. omega (arith, ints);
   y_rises = λ i h. let s = entry_mono i (suc i) (omega arith) in omega (arith, ints);
 }
 

@@ -5,10 +5,10 @@ use native.Mathlib.Omega.{arith}
 use borrow.Author.Tests.{eqb-true, eqb-false}
 use Rattle.std.proofs.lemmas.Bool.{or_parts}
 use Rattle.engine.specs.Fraction.{whole}
-use Rattle.engine.specs.Pieces.{Knot, Lawful, width, height}
+use Rattle.engine.specs.Pieces.{Knot, width, height}
 use Rattle.engine.specs.Orders.{by_test}
 use Rattle.engine.specs.Terms.{Is, Is-over, Is-whole}
-use Rattle.engine.specs.Places.{wide, narrow}
+use Rattle.engine.specs.Places.{Lawful, LawfulTable, wide, narrow}
 use Rattle.engine.specs.Tables.{secant, inner_slope, end_slope, slope}
 use Rattle.engine.specs.CubicPieces.{Slope, Gentle}
 
@@ -80,11 +80,12 @@ module _ (k : ℕ → Knot) (top : ℕ) (law : Lawful k top) where
       (λ e. let n : ¬ (suc i ≡ top) = eqb-false (suc i) top e in
       rw e (inner_before _ _ _ _ (wide k top law i l) (wide k top law (suc i) (omega arith))))
 
-  -- every piece of a cubic table is gentle
-  pub gentle_piece : (i : ℕ) → i < top → Gentle (width k i) (height k i) (slope k top i) (slope k top (suc i))
-  gentle_piece i l = record {
-    wide = wide k top law i l;
-    narrow = narrow k top law i l;
-    start = slope_start i l;
-    end = slope_end i l;
-  }
+-- every piece of a cubic table is gentle
+pub gentle_piece : (k : ℕ → Knot) (top : ℕ) → LawfulTable k top → (i : ℕ) → i < top
+    → Gentle (width k i) (height k i) (slope k top i) (slope k top (suc i))
+gentle_piece k top law i l = record {
+  wide = wide k top law.knots i l;
+  narrow = narrow k top law i l;
+  start = slope_start k top law.knots i l;
+  end = slope_end k top law.knots i l;
+}

@@ -8,13 +8,13 @@ use borrow.Author.Differences.{ints, up, down}
 use Rattle.engine.specs.Coordinates.{Coordinate, Within, furthest}
 use Rattle.engine.specs.Curves.{Rules, meaning}
 use Rattle.engine.specs.Fraction.{Fraction, whole, ◌+ᶠ◌, ◌≤ᶠ◌, leᶠ, floorᶠ}
-use Rattle.engine.specs.Pieces.{Knot, Lawful, height, piecewise}
+use Rattle.engine.specs.Pieces.{Knot, height, piecewise}
 use Rattle.engine.specs.Orders.{≤ᶠ_trans, ≤ℤ_trans, whole-≤, leᶠ_true, leᶠ_false, same_test}
 use Rattle.engine.specs.Sums.{+ᶠ_up, whole_sum, whole_within}
 use Rattle.engine.specs.Floors.{floor_above, floor_below, floor_mono, floor_near}
 use Rattle.engine.specs.Piecewise.{Pieces, piecewise_mono, piecewise_both, piecewise_map}
 use Rattle.engine.specs.Joins.{stays}
-use Rattle.engine.specs.Places.{y_is}
+use Rattle.engine.specs.Places.{Lawful, y_is}
 use Rattle.engine.specs.Tables.{exact_from, value_from, greatest, table_value, table_exact, table_rise, table_radius}
 use Rattle.engine.specs.declared.kind.Kind.TheVariants.{Step}
 use Rattle.engine.specs.Rises.{greatest_at, greatest_below, low_height}
