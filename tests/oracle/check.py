@@ -2,6 +2,7 @@
 
 Run it anywhere: python3 tests/oracle/check.py
 """
+import re
 import sys
 from fractions import Fraction
 from itertools import zip_longest
@@ -29,6 +30,13 @@ def same(found, expected, what):
         if a != b:
             failures.append(f"{what}, line {n}: {a}, not {b}")
             return
+
+
+def head_rows():
+    """The head's rows as the tests of crates/tabulate have them."""
+    text = (REPOSITORY / "crates" / "tabulate" / "src" / "tests.rt").read_text()
+    rows = text.split("const HEAD_ROWS")[1].split("= [")[1].split("];")[0]
+    return [tuple(map(int, row)) for row in re.findall(r"\((-?\d+), (-?\d+)\)", rows)]
 
 
 def figures():
@@ -65,6 +73,7 @@ def figures():
     equal(tabulate.tabulate(0, 0, 0, 500, 0, 5, 2), ([(0, 0), (2, 362), (4, 500)], 256, 0), "a small table")
     equal(tabulate.reflectance(400, 2000, 1300), ([(400, 2840), (1700, 4100)], 4, 1), "a small table of the head")
     equal([tabulate.reflectance(*s) for s in [(0, 8192, 1), (1, 0, 1), (0, 1, 0)]], [1, 11, 11], "refused spans")
+    equal(tabulate.reflectance(-7000, 8191, 700), (head_rows(), 4, 1), "the rows that crates/tabulate tests")
 
 
 def table_figures():

@@ -39,24 +39,18 @@ def refusal(*settings):
     return answer if isinstance(answer, int) else 0
 
 
-def jobs(words):
-    """The jobs of the words of a text: seven numbers, or the word `reflectance` and three."""
-    while words:
-        if words[0] == "reflectance":
-            yield reflectance(*map(int, words[1:4]))
-            words = words[4:]
-        else:
-            yield tabulate(*map(int, words[:7]))
-            words = words[7:]
+def job(words):
+    """The table that a text asks for: three numbers after the word `reflectance`, otherwise seven."""
+    if words[0] == "reflectance":
+        return reflectance(*map(int, words[1:]))
+    return tabulate(*map(int, words))
 
 
 def written(text):
-    """The output for the jobs in the text, which have to be lawful."""
-    lines = []
-    for rows, rise, radius in jobs(text.split()):
-        lines += [f"{x} {v}\n" for x, v in rows]
-        lines.append(f"{len(rows)} readings, rise {rise}, radius {radius}\n")
-    return "".join(lines)
+    """The output for the job in the text, which has to be lawful."""
+    rows, rise, radius = job(text.split())
+    lines = [f"{x} {v}\n" for x, v in rows]
+    return "".join(lines) + f"{len(rows)} readings, rise {rise}, radius {radius}\n"
 
 
 if __name__ == "__main__":

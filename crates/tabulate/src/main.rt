@@ -38,7 +38,7 @@ fn run(rt: &HostRuntime) -> anyhow::Result<()> {
     let text = io::read_to_string(rt.alloc(), rt.stdin())?;
     match read_job(text.as_str()) {
         Ok(Job::Flow(settings)) => match tabulate(settings) {
-            Ok(table) => write_flow(rt, &table),
+            Ok(table) => write_table(rt, &table),
             Err(refusal) => Err(refused(refusal)),
         },
         Ok(Job::Reflectance(span)) => match tabulate_reflectance(span) {
@@ -54,7 +54,7 @@ fn refused(refusal: Refusal) -> anyhow::Error {
     anyhow!("refused {number}")
 }
 
-fn write_flow(rt: &HostRuntime, table: &Table<Flow>) -> anyhow::Result<()> {
+fn write_table(rt: &HostRuntime, table: &Table<Flow>) -> anyhow::Result<()> {
     let count = table.len();
     for i in 0..count {
         write_row(rt, flow_row(table, i))?;

@@ -90,6 +90,50 @@ fn a_small_table_of_the_head(rt: HostRuntime) -> Result<(), Fail> {
     Ok(())
 }
 
+// The rows of the head's table from -7000 in steps of 700, as `tests/oracle/check.py` shows them.
+const HEAD_ROWS: [(i32, i32); 22] = [
+    (-7000, 0),
+    (-6300, 0),
+    (-5600, 112),
+    (-4900, 252),
+    (-4200, 411),
+    (-3500, 610),
+    (-2800, 859),
+    (-2100, 1156),
+    (-1400, 1514),
+    (-700, 1950),
+    (0, 2498),
+    (700, 3110),
+    (1400, 3797),
+    (2100, 4521),
+    (2800, 5262),
+    (3500, 5926),
+    (4200, 6491),
+    (4900, 6942),
+    (5600, 7299),
+    (6300, 7580),
+    (7000, 7600),
+    (7700, 7600),
+];
+
+#[test]
+fn the_whole_head(rt: HostRuntime) -> Result<(), Fail> {
+    let table = tabulate_reflectance(Span {
+        first: -7000,
+        last: 8191,
+        step: 700,
+    })?;
+    assert_eq!(rt; table.len(), 22);
+    for i in 0..22 {
+        let Some(row) = reflectance_row(&table, i) else {
+            assert!(rt; false);
+            return Ok(());
+        };
+        assert_eq!(rt; (row.reading, row.value), HEAD_ROWS[i as usize]);
+    }
+    Ok(())
+}
+
 // How many numbers the job of a text has, where they are 1, -2 .. 7; or 0.
 fn numbers(text: &str) -> usize {
     match read_job(text) {
