@@ -1,3 +1,4 @@
+-- definitions
 pub mod Fraction
 pub mod Coordinates
 pub mod Curves
@@ -12,28 +13,29 @@ pub mod Neighbours
 pub mod Edits
 pub mod Drafts
 pub mod Theorems
-pub mod Layers
+-- lemmas that the laws of curves rest on
 pub mod Orders
-pub mod Sums
 pub mod Terms
-pub mod Holds
-pub mod RootRules
-pub mod Joins
+pub mod Sums
 pub mod Lags
+pub mod Floors
+pub mod Holds
+pub mod Layers
 pub mod Piecewise
 pub mod Places
+pub mod Joins
 pub mod Lines
 pub mod Roots
-pub mod TableRules
-pub mod Lawfuls
-pub mod StepRules
-pub mod Floors
-pub mod Rises
+pub mod RootRules
+pub mod Forms
 pub mod Rounding
-pub mod LineRules
+pub mod Rises
+pub mod Lawfuls
 pub mod Slopes
 pub mod CubicPieces
-pub mod Forms
-pub mod CubicRules
 pub mod CubicValues
 pub mod Wholes
+pub mod StepRules
+pub mod LineRules
+pub mod CubicRules
+pub mod TableRules
