@@ -9,8 +9,10 @@ A name of the repository's own with a dash in it is respelled:
   - a lemma whose name begins with a type or ends with an operator keeps its dash, which joins two names: Val-add;
   - every other name in snake case: held-shift becomes held_shift; a lemma that would have
     the name of a function of src/ gets _lem.
-Names of the libraries and names that Rattle makes (goals, facts of a call) stay. So do functions of src/, strings,
-inputs and outputs. It stops where two names would fall together.
+Names of the libraries and names that Rattle makes (goals, facts of a call) stay, and so do functions of src/, inputs and
+outputs. It goes by whole words, in clauses, code and comments alike; no string of the repository has such a word. It stops
+where a new name stands in a file of specs/ or proofs/ already, other than as a module or a folder there, or where two names
+would become one.
 """
 
 import re
@@ -36,10 +38,6 @@ def files():
     for crate in sorted(own_crates()):
         for folder in ("specs", "proofs", "src"):
             yield from sorted(p for p in (CRATES / crate / folder).rglob("*") if p.suffix in (".antt", ".rt"))
-
-
-def is_answer(path):
-    return path.name in ("Answers.antt", "Invariants.antt", "Proof.antt")
 
 
 def statement(lines, i):

@@ -1,4 +1,4 @@
-"""What the program `tabulate` writes, from its standard input."""
+"""What the program `tabulate` writes, from its standard input; and the table of the head."""
 import sys
 
 from curves import Bare, Chain, Clamp, Offset, Root, band, value
@@ -39,16 +39,9 @@ def refusal(*settings):
     return answer if isinstance(answer, int) else 0
 
 
-def job(words):
-    """The table that a text asks for: three numbers after the word `reflectance`, otherwise seven."""
-    if words[0] == "reflectance":
-        return reflectance(*map(int, words[1:]))
-    return tabulate(*map(int, words))
-
-
 def written(text):
-    """The output for the job in the text, which has to be lawful."""
-    rows, rise, radius = job(text.split())
+    """The output for the settings in the text, which have to be lawful."""
+    rows, rise, radius = tabulate(*map(int, text.split()))
     lines = [f"{x} {v}\n" for x, v in rows]
     return "".join(lines) + f"{len(rows)} readings, rise {rise}, radius {radius}\n"
 

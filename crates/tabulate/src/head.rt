@@ -1,4 +1,4 @@
-//! A sorting head: its reflectance curve and the table of it.
+//! A sorting head: its reflectance curve and the table of it, for which the program does not ask yet.
 
 ghost use Rattle.std.specs.Prelude.{◌≡◌};
 ghost use Rattle.engine.specs.Refusals.{Outcome, told};

@@ -1,9 +1,10 @@
 //! Worked figures, on which `tests/oracle/check.py` shows the oracle, and texts of the input.
 
 use crate::head::{Span, reflectance_bounds, reflectance_row, tabulate_reflectance};
-use crate::input::{Job, read_job, read_settings};
+use crate::input::read_settings;
 use crate::nozzle::{Flow, Settings, flow_bounds, flow_row, tabulate};
 use crate::table::Table;
+use engine::table::KnotTable;
 use std::test::Fail;
 
 // Settings with neither a shift nor a trim.
@@ -69,6 +70,12 @@ fn the_input_is_seven_numbers(rt: HostRuntime) -> Result<(), Fail> {
     Ok(())
 }
 
+// Row i of the head's table as a pair.
+fn head_row(table: &Table<KnotTable>, i: u32) -> Option<(i32, i32)> {
+    let row = reflectance_row(table, i)?;
+    Some((row.reading, row.value))
+}
+
 #[test]
 fn a_small_table_of_the_head(rt: HostRuntime) -> Result<(), Fail> {
     let table = tabulate_reflectance(Span {
@@ -77,15 +84,8 @@ fn a_small_table_of_the_head(rt: HostRuntime) -> Result<(), Fail> {
         step: 1300,
     })?;
     assert_eq!(rt; table.len(), 2);
-    let Some(first) = reflectance_row(&table, 0) else {
-        assert!(rt; false);
-        return Ok(());
-    };
-    let Some(last) = reflectance_row(&table, 1) else {
-        assert!(rt; false);
-        return Ok(());
-    };
-    assert_eq!(rt; (first.value, last.value), (2840, 4100));
+    assert_eq!(rt; head_row(&table, 0), Some((400, 2840)));
+    assert_eq!(rt; head_row(&table, 1), Some((1700, 4100)));
     assert_eq!(rt; reflectance_bounds(&table), (4, 1));
     Ok(())
 }
@@ -125,44 +125,7 @@ fn the_whole_head(rt: HostRuntime) -> Result<(), Fail> {
     })?;
     assert_eq!(rt; table.len(), 22);
     for i in 0..22 {
-        let Some(row) = reflectance_row(&table, i) else {
-            assert!(rt; false);
-            return Ok(());
-        };
-        assert_eq!(rt; (row.reading, row.value), HEAD_ROWS[i as usize]);
+        assert_eq!(rt; head_row(&table, i), Some(HEAD_ROWS[i as usize]));
     }
     Ok(())
-}
-
-// How many numbers the job of a text has, where they are 1, -2 .. 7; or 0.
-fn numbers(text: &str) -> usize {
-    match read_job(text) {
-        Ok(Job::Flow(s)) => {
-            if s.zero == 1 && s.trim == -2 && s.step == 7 {
-                7
-            } else {
-                0
-            }
-        }
-        Ok(Job::Reflectance(s)) => {
-            if s.first == 1 && s.last == -2 && s.step == 7 {
-                3
-            } else {
-                0
-            }
-        }
-        Err(_) => 0,
-    }
-}
-
-#[test]
-fn a_job_is_seven_numbers_or_a_word_and_three(rt: HostRuntime) {
-    assert_eq!(rt; numbers(" 1 -2\n3 4\t5 6 +7\n"), 7);
-    assert_eq!(rt; numbers("\treflectance 1 -2\n7"), 3);
-    assert_eq!(rt; numbers("reflectance 1 -2 7 8"), 0);
-    assert_eq!(rt; numbers("reflectance 1 -2 x"), 0);
-    assert_eq!(rt; numbers("reflectance 1 -2"), 0);
-    assert_eq!(rt; numbers("Reflectance 1 -2 7"), 0);
-    assert_eq!(rt; numbers("1 -2 3 4 5 6"), 0);
-    assert_eq!(rt; numbers(""), 0);
 }

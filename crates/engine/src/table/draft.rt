@@ -4,7 +4,7 @@ ghost use Rattle.std.specs.Prelude.{◌≡◌, ◌+◌, ◌-◌, ◌<◌, ◌≤
 ghost use Rattle.engine.specs.Refusals.{Outcome, told};
 ghost use Rattle.engine.specs.Drafts.{IsTable, Slotted, knot_from, linked};
 ghost use Rattle.engine.specs.Edits.{drop_refusal, put_refusal};
-ghost use Rattle.engine.specs.Edits.{before as knot-before};
+ghost use Rattle.engine.specs.Edits.{before as before_knot};
 ghost use Rattle.engine.specs.Knots.{fewest, lawful, most, near};
 
 use super::faults::{are_near, is_fit, is_near_both, is_upward_both};
@@ -100,7 +100,7 @@ pub(super) fn check_put(ks: &[Knot], k: Knot) -> Result<Slot, Refusal>
 // The knots before and after the slot are near enough to be neighbours.
 fn closes(ks: &[Knot], slot: Slot) -> bool
     requires { slot.start ≤ length ks.now }
-    ensures { result ≡ linked near (knot-before ks.now slot.start) (knot_from ks.now slot.end) }
+    ensures { result ≡ linked near (before_knot ks.now slot.start) (knot_from ks.now slot.end) }
 {
     are_near(knot_before(ks, slot.start), knot_from(ks, slot.end))
 }

@@ -6,7 +6,7 @@ ghost use Rattle.engine.specs.Fraction.{◌÷◌};
 ghost use Rattle.engine.specs.Pieces.{widest};
 ghost use Rattle.engine.specs.Knots.{curve_knots, fewest, knot_at, lawful, most};
 ghost use Rattle.engine.specs.Neighbours.{Piece, piece_height, piece_width};
-ghost use Rattle.engine.specs.Tables.{inner_slope as slope-between, slope, stored};
+ghost use Rattle.engine.specs.Tables.{inner_slope as slope_between, slope, stored};
 
 use super::piece::{height_of, width_of};
 use crate::knot::Knot;
@@ -52,7 +52,7 @@ fn mean_bottom(ha: u64, da: u64, hb: u64, db: u64) -> u64
 fn mean(ha: u64, da: u64, hb: u64, db: u64) -> u64
     requires before { (0 < ha) × ((ha ≤ widest) × (da ≤ furthest)) }
     requires after { (0 < hb) × ((hb ≤ widest) × (db ≤ furthest)) }
-    ensures is { pos result ≡ stored (slope-between ha da hb db) }
+    ensures is { pos result ≡ stored (slope_between ha da hb db) }
     ensures small { result ≤ 6144 * furthest }
 {
     if da == 0 || db == 0 {
@@ -74,7 +74,7 @@ fn inner_slope(p: Knot, q: Knot, r: Knot) -> u32
     requires before { Piece p q }
     requires after { Piece q r }
     ensures { pos result
-        ≡ stored (slope-between (piece_width p q) (piece_height p q) (piece_width q r) (piece_height q r)) }
+        ≡ stored (slope_between (piece_width p q) (piece_height p q) (piece_width q r) (piece_height q r)) }
 {
     mean(
         width_of(p, q),

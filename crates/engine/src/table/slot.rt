@@ -2,7 +2,7 @@
 
 ghost use Rattle.std.specs.Prelude.{◌≡◌, ◌≤◌, true, length, int_le};
 ghost use Rattle.engine.specs.Drafts.{Reached, Slotted, knot_from};
-ghost use Rattle.engine.specs.Edits.{before as knot-before};
+ghost use Rattle.engine.specs.Edits.{before as before_knot};
 ghost use Rattle.engine.specs.Knots.{neighbours, rightward};
 
 use crate::knot::Knot;
@@ -63,7 +63,7 @@ pub(super) fn slot_of(ks: &[Knot], x: i32) -> Slot
 // The knot before knot i, and the knot at i.
 pub(super) fn knot_before(ks: &[Knot], i: usize) -> Option<Knot>
     requires { i ≤ length ks.now }
-    ensures { result ≡ knot-before ks.now i }
+    ensures { result ≡ before_knot ks.now i }
 {
     if i > 0 { Some(ks[i - 1]) } else { None }
 }

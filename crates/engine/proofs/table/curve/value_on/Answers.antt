@@ -7,7 +7,7 @@ use Rattle.engine.proofs.table.curve.value_on.Goals as goal
 
 pub returns-then-n-eq0 : goal.returns-then-n-eq0
 returns-then-n-eq0 c =
-    let x_Fits = c.ranges.x in
+    let x_fits = c.ranges.x in
     let ks = c.args.ks.now in
     let y_fits : SFits w32 (knot_at ks 0).y = search rules in
     let reached = simp to_z-of_z at c.count_reached-n.ensures in
@@ -17,7 +17,7 @@ returns-then-n-eq0 c =
 
 pub returns-then-n-ks : goal.returns-then-n-ks
 returns-then-n-ks c =
-    let x_Fits = c.ranges.x in
+    let x_fits = c.ranges.x in
     let ks = c.args.ks.now in
     let y_fits : SFits w32 (knot_at ks (c.count_reached-n.result - 1)).y = search rules in
     let reached = simp to_z-of_z at c.count_reached-n.ensures in
@@ -27,7 +27,7 @@ returns-then-n-ks c =
 
 pub piece_at-requires : goal.piece_at-requires
 piece_at-requires c =
-    let x_Fits = c.ranges.x in
+    let x_fits = c.ranges.x in
     let ks = c.args.ks.now in
     let n = c.count_reached-n.result in
     let slopes = c.args.slopes.now in
@@ -48,7 +48,7 @@ piece_at-requires c =
 
 pub returns : goal.returns
 returns c =
-    let x_Fits = c.ranges.x in
+    let x_fits = c.ranges.x in
     let ks = c.args.ks.now in
     let n = c.count_reached-n.result in
     let reached = simp to_z-of_z at c.count_reached-n.ensures in

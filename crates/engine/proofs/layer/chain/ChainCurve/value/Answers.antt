@@ -10,7 +10,7 @@ chained G v w r e inside told = told ∙ ap G (ap (hold lowest highest) e ∙ ho
 
 pub returns : goal.returns
 returns g c =
-    let x_Fits = c.ranges.x in
+    let x_fits = c.ranges.x in
     let v_fits : SFits w32 c.value.result = search rules in
     let r_fits : SFits w32 c.value-2.result = search rules in
     let inside = (g.met.F.Curve.keeps c.args.self.now.inner).value_fits _ (hold_coordinate c.args.x) in
