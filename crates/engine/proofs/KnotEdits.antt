@@ -70,18 +70,9 @@ module _ (ks : List Knot) (x : ℤ) (start end : ℕ) (s : Slotted ks x start en
       ap length s.without_is
       ∙ simp (length-append, length-drop) (omega (arith, length-take-le start ks inside))
 
-  pub drop_absent : start ≡ end → drop_refusal x ks ≡ Some (alone no_knot)
-  drop_absent h = let e : has_knot x ks ≡ false = s.found ∙ le-ltb start end (omega arith) in rw e refl
-
   module _ (there : ¬ (start ≡ end)) where
     present : has_knot x ks ≡ true
     present = s.found ∙ lt-ltb start end (omega (arith, s.order))
-
-    pub drop_count : start + (length ks - end) < fewest → drop_refusal x ks ≡ Some (alone knot_count)
-    drop_count h =
-        let e = present in
-        let few : ltb (length (without_knot x ks)) fewest ≡ true = lt-ltb _ fewest (omega (arith, without_length)) in
-        rw (e, few) refl
 
     module _ (some : fewest ≤ start + (length ks - end)) where
       enough : ltb (length (without_knot x ks)) fewest ≡ false

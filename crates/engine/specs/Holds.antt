@@ -1,4 +1,4 @@
--- Holding keeps the order and widens no distance. `held-` lemmas are of fractions, `hold-` lemmas of whole numbers.
+-- Holding keeps the order and widens no distance. `held_` lemmas are of fractions, `hold_` lemmas of whole numbers.
 use Rattle.std.specs.Prelude.{◌≡◌, ℕ, Bool, true, false, cond, ℤ, pos, ◌*ℤ◌, ◌≤ℤ◌, int_lt, refl}
 use Rattle.std.proofs.Common.{arith}
 use Rattle.std.proofs.lemmas.Int.{ints}

@@ -1,5 +1,5 @@
 -- Lists of knots: the rules of a knot table, and what its edits make of a list.
-use Rattle.std.specs.Prelude.{ℕ, zero, suc, Bool, true, false, cond, not, ◌&&◌, List, [], ◌∷◌, ℤ, pos, ◌+ℤ◌, neg_ℤ, int_le, int_lt, slice_index_or}
+use Rattle.std.specs.Prelude.{ℕ, Bool, true, false, cond, not, ◌&&◌, List, [], ◌∷◌, ℤ, pos, ◌+ℤ◌, neg_ℤ, int_le, int_lt, slice_index_or}
 use Rattle.engine.specs.Coordinates.{coordinate, lowest, highest}
 use Rattle.engine.specs.Pieces.{widest}
 use Rattle.engine.specs.Pieces as curve
@@ -84,8 +84,3 @@ has_knot x (k ∷ ks) = cond (int_lt k.x x) (has_knot x ks) (not (int_lt x k.x))
 abbrev pub without_knot : ℤ → List Knot → List Knot
 without_knot x [] = []
 without_knot x (k ∷ ks) = cond (int_lt k.x x) (k ∷ without_knot x ks) (cond (int_lt x k.x) (k ∷ ks) ks)
-
--- how many knots lie below x, from the first on
-abbrev pub place : ℤ → List Knot → ℕ
-place x [] = zero
-place x (k ∷ ks) = cond (int_lt k.x x) (suc (place x ks)) zero

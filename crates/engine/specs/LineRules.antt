@@ -1,5 +1,5 @@
--- The rules of every lawful table of straight lines. Its exact curve is made of the straight pieces of the crate
--- `curves`, and its value is the exact value rounded.
+-- The rules of every lawful table of straight lines. Its exact curve is made of the straight pieces of
+-- `Lines`, and its value is the exact value rounded.
 use Rattle.std.specs.Prelude.{◌≡◌, ℕ, ◌*◌, ◌<◌, ◌≤◌, ℤ, pos, ◌+ℤ◌, ◌≤ℤ◌, int_le}
 use Rattle.std.proofs.Math.Path.{refl, sym, subst, subst₂}
 use Rattle.std.proofs.Common.{mul-le-mul_left, le_trans, arith}

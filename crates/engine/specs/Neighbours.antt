@@ -1,10 +1,10 @@
--- One piece of a table by its two knots, and what a search for it finds.
-use Rattle.std.specs.Prelude.{◌≡◌, ℕ, suc, ◌*◌, ◌<◌, ◌≤◌, true, false, List, length, ℤ, pos, ◌+ℤ◌, ◌-ℤ◌, ◌≤ℤ◌, ◌<ℤ◌, int_le, unsigned_abs}
+-- One piece of a table by its two knots.
+use Rattle.std.specs.Prelude.{ℕ, ◌*◌, ◌≤◌, ℤ, pos, ◌+ℤ◌, ◌-ℤ◌, ◌≤ℤ◌, ◌<ℤ◌, unsigned_abs}
 use Rattle.engine.specs.Coordinates.{Coordinate}
 use Rattle.engine.specs.Fraction.{whole, ◌÷◌, roundᶠ}
 use Rattle.engine.specs.Pieces.{widest, line_exact}
 use Rattle.engine.specs.declared.knot.Knot.{Knot}
-use Rattle.engine.specs.Knots.{curve_knot, knot_at}
+use Rattle.engine.specs.Knots.{curve_knot}
 use Rattle.engine.specs.Tables.{cubic_value, round_up}
 use Rattle.engine.specs.declared.kind.Kind.{Kind}
 use Rattle.engine.specs.declared.kind.Kind.TheVariants.{Step, Line, Cubic}
@@ -41,9 +41,3 @@ piece_rise Cubic p q = round_up (pos (3 * piece_height p q) ÷ piece_width p q)
 -- a stored slope of at most three secants: M h ≤ 3 × 2048 D
 abbrev pub Gentle : (p q : Knot) → ℕ → Type 0
 Gentle p q M = M * piece_width p q ≤ 6144 * piece_height p q
-
--- x lies from knot i on, short of the next
-pub record Found (ks : List Knot) (x : ℤ) (i : ℕ) : Type 0 where
-  pub inside : suc i < length ks
-  pub from : int_le (knot_at ks i).x x ≡ true
-  pub short : int_le (knot_at ks (suc i)).x x ≡ false

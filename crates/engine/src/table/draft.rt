@@ -18,7 +18,7 @@ use crate::refusal::Refusal;
 // What stands in the places that a table does not use.
 const EMPTY: Knot = Knot { x: 0, y: 0 };
 
-// The table of the first count knots. Every table is made here.
+// The table of the first count knots, with its stored slopes.
 pub(super) fn made(knots: [Knot; 96], count: usize, kind: Kind) -> KnotTable
     requires some { fewest ≤ count }
     requires few { count ≤ most }
