@@ -1,7 +1,7 @@
 //! Knot tables.
 
 ghost use Rattle.std.specs.Prelude.{◌≡◌, ℕ, ◌-◌, ◌<◌, ◌≤◌, true, length, take, pos, slice_index};
-ghost use Rattle.engine.specs.Knots.{curve_knots, fewest, most, lawful, knot_at};
+ghost use Rattle.engine.specs.Knots.{curve_knots, fewest, lawful, most};
 ghost use Rattle.engine.specs.Tables.{slope, stored};
 
 use crate::kind::Kind;

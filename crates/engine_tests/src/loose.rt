@@ -3,7 +3,7 @@
 ghost use Rattle.std.specs.Prelude.{◌≡◌, min};
 ghost use Rattle.engine.specs.Coordinates.{furthest};
 ghost use Rattle.engine.specs.Curves.{bare};
-ghost use Rattle.std.proofs.Common.{arith};
+ghost use Rattle.std.proofs.Math.Nat.{min-le_right};
 ghost use Rattle.engine.specs.Fraction.{whole};
 ghost use Rattle.engine.specs.Layers.{bare_rules};
 ghost use Rattle.engine.specs.Sums.{+ᶠ_up};
@@ -38,7 +38,7 @@ impl Curve for Loose {
     ghost keeps = { λ s.
         record {
           rise_fits = bare_rules.rise_fits;
-          radius_fits = omega arith;
+          radius_fits = min-le_right s.radius furthest;
           value_fits = bare_rules.value_fits;
           value_mono = bare_rules.value_mono;
           exact_fits = bare_rules.exact_fits;

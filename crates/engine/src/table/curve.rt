@@ -1,12 +1,10 @@
 //! A table as a curve.
 
-ghost use Rattle.std.specs.Prelude.{◌≡◌, ℕ, ◌-◌, ◌<◌, ◌≤◌, max, true, length, take, pos, slice_index};
+ghost use Rattle.std.specs.Prelude.{◌≡◌, ℕ, ◌-◌, ◌<◌, ◌≤◌, true, length, pos, slice_index};
 ghost use Rattle.engine.specs.Edits.{curve_of};
-ghost use Rattle.engine.specs.Knots.{curve_knots, fewest, knot_at, lawful, most};
-ghost use Rattle.engine.specs.Tables.{slope, stored, table_radius, table_rise, table_value};
-ghost use Rattle.std.proofs.Common.{arith};
-ghost use Rattle.std.proofs.lemmas.List.{length-take-le};
-ghost use Rattle.engine.specs.TableRules.{table_rules};
+ghost use Rattle.engine.specs.Knots.{curve_knots, fewest, lawful, most};
+ghost use Rattle.engine.specs.Tables.{slope, stored, table_rise, table_value};
+ghost use Rattle.engine.specs.TableRules.{array_rules};
 
 use super::KnotTable;
 use super::piece::{piece_at, rise_of};
@@ -57,12 +55,7 @@ impl Curve for KnotTable {
 
     ghost R = { λ t. (curve_of t).R };
 
-    ghost keeps = { λ t.
-        let some : fewest ≤ t.count = t.some in
-        let few : t.count ≤ most = t.few in
-        let long : length t.knots ≡ most = t.long in
-        let size = length-take-le t.count t.knots (omega arith) in
-        table_rules t.kind (take t.count t.knots) (omega arith) t.ok };
+    ghost keeps = { λ t. array_rules t.kind t.knots t.count t.long t.some t.few t.ok };
 
     fn value(&self, x: i32) -> i32 {
         value_on(

@@ -4,7 +4,7 @@ ghost use Rattle.std.specs.Prelude.{◌≡◌, ℕ, ◌+◌, ◌-◌, ◌*◌, �
 ghost use Rattle.engine.specs.Coordinates.{furthest};
 ghost use Rattle.engine.specs.Fraction.{◌÷◌};
 ghost use Rattle.engine.specs.Pieces.{widest};
-ghost use Rattle.engine.specs.Knots.{curve_knots, fewest, knot_at, lawful, most};
+ghost use Rattle.engine.specs.Knots.{curve_knots, fewest, lawful, most};
 ghost use Rattle.engine.specs.Neighbours.{Piece, piece_height, piece_width};
 ghost use Rattle.engine.specs.Tables.{inner_slope as slope_between, slope, stored};
 
