@@ -1,7 +1,7 @@
 -- Put and drop by the place of x: why they are refused, that what they leave is lawful, and which knots they leave.
 use Rattle.std.proofs.Common.{◌≡◌, ℕ, ◌+◌, ◌-◌, ◌<◌, ◌≤◌, Bool, true, false, ◌&&◌, ltb, ◌⊎◌, List, [], ◌∷◌, length, ℤ, Some, None, Option, sym, refl, ap, ◌∙◌, subst, ap₂, inl, inr, arith}
 use lib.Signed.{lt_z}
-use Rattle.std.proofs.lemmas.List.{length-append, length-drop, length-take-le}
+use Rattle.std.specs.List.{splice}
 use Rattle.std.proofs.lemmas.Int.{ints}
 use Rattle.std.proofs.lemmas.Bool.{and_from, and_parts, lt-ltb, le-ltb, ltb-false}
 use Rattle.engine.specs.Coordinates.{coordinate}
@@ -14,7 +14,7 @@ use Rattle.engine.specs.Knots.{fewest, most, knot, fits, rightward, near, upward
 use Rattle.engine.specs.Knots.{with_knot, has_knot, without_knot}
 use Rattle.engine.proofs.Faults.{unrefused, passes}
 use Rattle.engine.specs.Lawfuls.{parts}
-use Rattle.engine.proofs.Splices.{neighbours_with, neighbours_without, skipped, each_with, each_without}
+use Rattle.engine.proofs.Splices.{splice_length, neighbours_with, neighbours_without, skipped, each_with, each_without}
 
 module _ (ks : List Knot) (x : ℤ) (start end : ℕ) (s : Slotted ks x start end) (ok : lawful ks ≡ true) where
   inside : start ≤ length ks
@@ -23,10 +23,8 @@ module _ (ks : List Knot) (x : ℤ) (start end : ℕ) (s : Slotted ks x start en
   -- ---- put
 
   module _ (y : ℤ) where
-    pub with_length : length (with_knot x y ks) ≡ start + 1 + (length ks - end)
-    with_length =
-        ap length (s.with_is y)
-        ∙ simp (length-append, length-drop) (omega (arith, length-take-le start ks inside))
+    pub with_length : length (with_knot x y ks) ≡ start + (length ks - end) + 1
+    with_length = ap length (s.with_is y) ∙ splice_length ks (knot x y ∷ []) start end inside ∙ omega arith
 
     -- `b` and `a` are the knots before and after the place
     module _ (b a : Option Knot) (b_is : b ≡ before ks start) (a_is : a ≡ knot_from ks end) where
@@ -42,7 +40,7 @@ module _ (ks : List Knot) (x : ℤ) (start end : ℕ) (s : Slotted ks x start en
       upward_is : neighbours upward (with_knot x y ks) ≡ fitted upward b (knot x y) a
       upward_is = with_tests upward (parts ks ok).3
 
-      module _ (in_range : (coordinate x && coordinate y) ≡ true) (room : start + 1 + (length ks - end) ≤ most) where
+      module _ (in_range : (coordinate x && coordinate y) ≡ true) (room : start + (length ks - end) + 1 ≤ most) where
         few : ltb most (length (with_knot x y ks)) ≡ false
         few = le-ltb most _ (omega (arith, with_length))
 
@@ -57,7 +55,7 @@ module _ (ks : List Knot) (x : ℤ) (start end : ℕ) (s : Slotted ks x start en
             → put_refusal x y ks ≡ None
         put_honoured h l = let e = near_is ∙ h in let g = upward_is ∙ l in let f = few in rw (in_range, f, e, g) refl
 
-    pub put_count : (coordinate x && coordinate y) ≡ true → most < start + 1 + (length ks - end)
+    pub put_count : (coordinate x && coordinate y) ≡ true → most < start + (length ks - end) + 1
         → put_refusal x y ks ≡ Some (alone knot_count)
     put_count in_range h =
         let many : ltb most (length (with_knot x y ks)) ≡ true = lt-ltb most _ (omega (arith, with_length)) in
@@ -66,9 +64,7 @@ module _ (ks : List Knot) (x : ℤ) (start end : ℕ) (s : Slotted ks x start en
   -- ---- drop
 
   pub without_length : length (without_knot x ks) ≡ start + (length ks - end)
-  without_length =
-      ap length s.without_is
-      ∙ simp (length-append, length-drop) (omega (arith, length-take-le start ks inside))
+  without_length = ap length s.without_is ∙ splice_length ks [] start end inside ∙ omega arith
 
   module _ (there : ¬ (start ≡ end)) where
     present : has_knot x ks ≡ true
@@ -90,7 +86,7 @@ module _ (ks : List Knot) (x : ℤ) (start end : ℕ) (s : Slotted ks x start en
 
   -- ---- what they leave is lawful
 
-  pub put_lawful : (y : ℤ) → put_refusal x y ks ≡ None → lawful (with_knot x y ks) ≡ true
+  put_lawful : (y : ℤ) → put_refusal x y ks ≡ None → lawful (with_knot x y ks) ≡ true
   put_lawful y h =
       let a = passes (coordinate x && coordinate y) (alone not_coordinate) _ h in
       let b = unrefused (ltb most (length (with_knot x y ks))) (alone knot_count) _ a.1 in
@@ -105,13 +101,12 @@ module _ (ks : List Knot) (x : ℤ) (start end : ℕ) (s : Slotted ks x start en
           neighbours_with rightward ks start end inside (parts ks ok).1 (knot x y) (with_knot x y ks) (s.with_is y)
           ∙ and_from _ _ (s.left y) (s.right y)
 
-  pub put_few : (y : ℤ) → put_refusal x y ks ≡ None → start + 1 + (length ks - end) ≤ most
+  put_few : (y : ℤ) → put_refusal x y ks ≡ None → length (with_knot x y ks) ≤ most
   put_few y h =
       let a = passes (coordinate x && coordinate y) (alone not_coordinate) _ h in
-      let b = unrefused (ltb most (length (with_knot x y ks))) (alone knot_count) _ a.1 in
-      omega (arith, ltb-false most (length (with_knot x y ks)) b.0, with_length y)
+      ltb-false most (length (with_knot x y ks)) (unrefused (ltb most (length (with_knot x y ks))) (alone knot_count) _ a.1).0
 
-  pub drop_lawful : drop_refusal x ks ≡ None → lawful (without_knot x ks) ≡ true
+  drop_lawful : drop_refusal x ks ≡ None → lawful (without_knot x ks) ≡ true
   drop_lawful h =
       let a = passes (has_knot x ks) (alone no_knot) _ h in
       let b = unrefused (ltb (length (without_knot x ks)) fewest) (alone knot_count) _ a.1 in
@@ -133,11 +128,33 @@ module _ (ks : List Knot) (x : ℤ) (start end : ℕ) (s : Slotted ks x start en
       upward_through : (a b c : Knot) → upward a b ≡ true → upward b c ≡ true → upward a c ≡ true
       upward_through a b c h k = sym (omega (arith, ints))
 
-  pub drop_some : drop_refusal x ks ≡ None → fewest ≤ start + (length ks - end)
+  drop_some : drop_refusal x ks ≡ None → fewest ≤ length (without_knot x ks)
   drop_some h =
       let a = passes (has_knot x ks) (alone no_knot) _ h in
-      let b = unrefused (ltb (length (without_knot x ks)) fewest) (alone knot_count) _ a.1 in
-      omega (arith, ltb-false (length (without_knot x ks)) fewest b.0, without_length)
+      ltb-false (length (without_knot x ks)) fewest
+      (unrefused (ltb (length (without_knot x ks)) fewest) (alone knot_count) _ a.1).0
+
+  -- the same of the list cut open and joined
+  module _ (y : ℤ) (none : put_refusal x y ks ≡ None) where
+    pub put_enough : fewest ≤ length ks → fewest ≤ length (splice ks start end (knot x y ∷ []))
+    put_enough some =
+        omega (arith, splice_length ks (knot x y ∷ []) start end inside, some, s.narrow, s.order, s.inside)
+
+    pub put_not_many : length (splice ks start end (knot x y ∷ [])) ≤ most
+    put_not_many = subst (λ l. length l ≤ most) (s.with_is y) (put_few y none)
+
+    pub put_ok : lawful (splice ks start end (knot x y ∷ [])) ≡ true
+    put_ok = subst (λ l. lawful l ≡ true) (s.with_is y) (put_lawful y none)
+
+  module _ (none : drop_refusal x ks ≡ None) where
+    pub drop_enough : fewest ≤ length (splice ks start end [])
+    drop_enough = subst (λ l. fewest ≤ length l) s.without_is (drop_some none)
+
+    pub drop_not_many : length ks ≤ most → length (splice ks start end []) ≤ most
+    drop_not_many few = omega (arith, splice_length ks [] start end inside, few, s.order, s.inside)
+
+    pub drop_ok : lawful (splice ks start end []) ≡ true
+    drop_ok = subst (λ l. lawful l ≡ true) s.without_is (drop_lawful none)
 
 -- ---- the knots that they leave
 

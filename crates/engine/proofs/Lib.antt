@@ -2,6 +2,7 @@ pub mod Arithmetic
 pub mod Worked
 pub mod Faults
 pub mod Splices
+pub mod Lists
 pub mod Slots
 pub mod KnotEdits
 pub mod StoredSlopes

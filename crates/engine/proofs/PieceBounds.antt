@@ -29,40 +29,48 @@ gain_is : (h d m n u v C : ℕ) → n * h + C ≡ 6144 * d
     → 2048 * d * (u * u) * (u + 3 * v) + m * h * u * (v * v) ≡ form (m * h) C (2048 * d) u v + n * h * (u * u) * v
 gain_is h d m n u v C e = omega (arith, joined (m * h) (n * h) C (2048 * d) u v (omega arith))
 
--- ---- a cubic piece of width h and height d, with stored slopes m and n of at most three secants, at u from its start
+-- ---- a cubic piece
 
-module _ (h d m n u : ℕ) (wide : 0 < h) (near : h ≤ 4096) (low : d ≤ 16383) (inside : u ≤ h)
-    (gentle : m * h ≤ 6144 * d) (gentle_end : n * h ≤ 6144 * d) where
+-- of width h and height d, with stored slopes m and n of at most three secants, at u from its start
+pub record Gauged (h d m n u : ℕ) : Type 0 where
+  pub wide : 0 < h
+  pub near : h ≤ 4096
+  pub low : d ≤ 16383
+  pub inside : u ≤ h
+  pub gentle : m * h ≤ 6144 * d
+  pub gentle_end : n * h ≤ 6144 * d
+
+module _ {h d m n u : ℕ} (g : Gauged h d m n u) where
   -- each factor is bounded, so each product is
   u_small : u ≤ 4096
-  u_small = omega arith
+  u_small = omega (arith, g.inside, g.near)
 
   v_small : h - u ≤ 4096
-  v_small = omega arith
+  v_small = omega (arith, g.near)
 
   bent_small : u + 3 * (h - u) ≤ 3 * 4096
-  bent_small = omega arith
+  bent_small = omega (arith, g.inside, g.near)
 
   pub height_gain : 2048 * d * (u * u) * (u + 3 * (h - u)) ≤ 2048 * 16383 * (4096 * 4096) * (3 * 4096)
-  height_gain = mul-le-mul (mul-le-mul (mul-le-mul_left 2048 low) (mul-le-mul u_small u_small)) bent_small
+  height_gain = mul-le-mul (mul-le-mul (mul-le-mul_left 2048 g.low) (mul-le-mul u_small u_small)) bent_small
 
   pub slope_gain : m * h * u * ((h - u) * (h - u)) ≤ 6144 * 16383 * 4096 * (4096 * 4096)
   slope_gain =
-      mul-le-mul (mul-le-mul (le_trans gentle (mul-le-mul_left 6144 low)) u_small) (mul-le-mul v_small v_small)
+      mul-le-mul (mul-le-mul (le_trans g.gentle (mul-le-mul_left 6144 g.low)) u_small) (mul-le-mul v_small v_small)
 
   pub slope_loss : n * h * (u * u) * (h - u) ≤ 6144 * 16383 * (4096 * 4096) * 4096
   slope_loss =
-      mul-le-mul (mul-le-mul (le_trans gentle_end (mul-le-mul_left 6144 low)) (mul-le-mul u_small u_small)) v_small
+      mul-le-mul (mul-le-mul (le_trans g.gentle_end (mul-le-mul_left 6144 g.low)) (mul-le-mul u_small u_small)) v_small
 
   pub cube_small : h * h * h ≤ 4096 * 4096 * 4096
-  cube_small = mul-le-mul (mul-le-mul near near) near
+  cube_small = mul-le-mul (mul-le-mul g.near g.near) g.near
 
   pub cube_some : 0 < h * h * h
-  cube_some = mul-le-mul (mul-le-mul wide wide) wide
+  cube_some = mul-le-mul (mul-le-mul g.wide g.wide) g.wide
 
   -- what is gained, less what is lost, is the Bernstein form
   rest : (C : ℕ) × (n * h + C ≡ 6144 * d)
-  rest = le_dest gentle_end
+  rest = le_dest g.gentle_end
 
   abbrev N : ℕ
   N = form (m * h) rest.0 (2048 * d) u (h - u)
@@ -128,7 +136,7 @@ module _ (h d m n u : ℕ) (wide : 0 < h) (near : h ≤ 4096) (low : d ≤ 16383
       ends =
           omega (
             arith,
-            form_mono (m * h) rest.0 (2048 * d) u (h - u) h 0 (omega arith) (omega (arith, rest.1)) inside
+            form_mono (m * h) rest.0 (2048 * d) u (h - u) h 0 (omega arith) (omega (arith, rest.1)) g.inside
                 (omega arith),
             form_end (m * h) rest.0 (2048 * d) h,
           )

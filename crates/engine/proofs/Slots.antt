@@ -1,7 +1,8 @@
 -- The place of x in a list of knots in order of x, and what an edit there makes of the list.
-use Rattle.std.proofs.Common.{◌≡◌, ℕ, zero, suc, ◌+◌, ◌-◌, ◌<◌, ◌≤◌, Bool, true, false, ltb, List, [], ◌∷◌, ◌++◌, length, take, drop, ℤ, Some, sym, refl, ap, ◌∙◌, subst, subst₂, inl, inr, arith, take-append-drop}
+use Rattle.std.proofs.Common.{◌≡◌, ℕ, zero, suc, ◌+◌, ◌-◌, ◌<◌, ◌≤◌, Bool, true, false, ltb, List, [], ◌∷◌, ◌++◌, length, take, drop, ℤ, Some, Option, sym, refl, ap, ◌∙◌, subst, subst₂, inl, inr, arith, take-append-drop}
 use lib.Signed.{le_z, lt_z}
-use Rattle.std.proofs.lemmas.List.{drop_more, drop_all}
+use Rattle.std.proofs.lemmas.List.{drop_more, drop_all, get_or_default}
+use Rattle.std.specs.List.Sorted.{IsPartitionedBy, IsPartitionPoint}
 use Rattle.std.proofs.lemmas.Int.{ints}
 use Rattle.std.proofs.lemmas.Bool.{and_from, and_parts, lt-ltb, le-ltb, cond-true, cases_lt, ltb-true}
 use Rattle.engine.specs.declared.knot.Knot.{Knot}
@@ -11,6 +12,10 @@ use Rattle.engine.specs.Edits.{before}
 use Rattle.engine.specs.Knots.{empty, knot, knot_at, each, neighbours, rightward, with_knot, has_knot, without_knot}
 use Rattle.engine.specs.Lawfuls.{neighbours_at}
 use Rattle.engine.proofs.Splices.{first, first_dropped}
+
+-- the same knot has the same x
+pub same_x : (j k : Knot) → ◌≡◌ {A = Option Knot} (Some j) (Some k) → j.x ≡ k.x
+same_x j k e = cc
 
 -- k is left of x
 abbrev left : ℤ → Knot → Bool
@@ -168,44 +173,84 @@ module _ (x : ℤ) where
         whole_is : {A : Type 0} (F : List Knot → A) → F ks ≡ F (take n ks ++ (knot_at ks n ∷ drop (n + 1) ks))
         whole_is F = ap F (sym (take-append-drop n ks) ∙ ap (λ bs. take n ks ++ bs) (drop_more ks n empty l))
 
-    -- from the number of knots at or below x: the last of them is left of x, or at x
-    beyond : (a : ℤ) → le_z a x ≡ true → le_z x a ≡ false → lt_z a x ≡ true
-    beyond a h l = sym (omega (arith, ints))
-
-    short_of : (a : ℤ) → le_z a x ≡ false → (lt_z a x ≡ false) × (lt_z x a ≡ true)
-    short_of a h = (sym (omega (arith, ints)), sym (omega (arith, ints)))
-
-    same_as : (a : ℤ) → le_z a x ≡ true → le_z x a ≡ true → (lt_z a x ≡ false) × (lt_z x a ≡ false)
-    same_as a h l = (sym (omega (arith, ints)), sym (omega (arith, ints)))
-
-    before_same : (a b : Knot) → rightward a b ≡ true → le_z b.x x ≡ true → left x a ≡ true
-    before_same a b h l = sym (omega (arith, ints))
-
-    pub slot_apart : (n : ℕ) → Reached ks x n → (0 < n → le_z x (knot_at ks (n - 1)).x ≡ false) → Slotted ks x n n
-    slot_apart n r h = no_knot n r.inside (λ l. beyond (knot_at ks (n - 1)).x (r.from l) (h l)) ahead
+    -- the knot before place n stands at x
+    pub slot_at : (n : ℕ) (k : Knot) → Reached ks x n → before ks n ≡ Some k → k.x ≡ x → Slotted ks x (n - 1) n
+    slot_at zero k r b h = cc
+    slot_at (suc m) k r b h =
+        let e : m ≡ suc m - 1 = omega arith in
+        let f : m + 1 ≡ suc m = omega arith in
+        let at : (knot_at ks m).x ≡ x = same_x (knot_at ks m) k b ∙ h in
+        subst₂ (Slotted ks x) e f
+        (one_knot m (omega (arith, r.inside)) (earlier m at r.inside) (not_left (knot_at ks m) at)
+        (not_right (knot_at ks m) at))
       where
+        not_left : (k : Knot) → k.x ≡ x → lt_z k.x x ≡ false
+        not_left k e = sym (omega (arith, ints))
+
+        not_right : (k : Knot) → k.x ≡ x → lt_z x k.x ≡ false
+        not_right k e = sym (omega (arith, ints))
+
+        left_of : (a b : Knot) → rightward a b ≡ true → b.x ≡ x → left x a ≡ true
+        left_of a b r e = sym (omega (arith, ints))
+
+        earlier : (m : ℕ) → (knot_at ks m).x ≡ x → suc m ≤ length ks → 0 < m → left x (knot_at ks (m - 1)) ≡ true
+        earlier zero e i l = absurd (omega arith)
+        earlier (suc j) e i l =
+            let s : j ≡ suc j - 1 = omega arith in
+            subst (λ n. left x (knot_at ks n) ≡ true) s
+            (left_of (knot_at ks j) (knot_at ks (suc j)) (neighbours_at rightward ks order j i) e)
+
+    -- it does not, or there is none
+    pub slot_apart : (n : ℕ) → Reached ks x n → ((k : Knot) → before ks n ≡ Some k → ¬ (k.x ≡ x)) → Slotted ks x n n
+    slot_apart n r h = no_knot n r.inside (beyond n r.from h) ahead
+      where
+        beyond : (n : ℕ) → (0 < n → le_z (knot_at ks (n - 1)).x x ≡ true)
+            → ((k : Knot) → before ks n ≡ Some k → ¬ (k.x ≡ x)) → 0 < n → left x (knot_at ks (n - 1)) ≡ true
+        beyond zero f h l = absurd (omega arith)
+        beyond (suc m) f h l =
+            let e : suc m - 1 ≡ m = omega arith in
+            let apart = h (knot_at ks (suc m - 1)) (ap (λ n. Some (knot_at ks n)) (sym e)) in
+            below (knot_at ks (suc m - 1)) (f l) apart
+          where
+            below : (k : Knot) → le_z k.x x ≡ true → ¬ (k.x ≡ x) → left x k ≡ true
+            below k t n = sym (omega (arith, ints))
+
+        short_of : (a : ℤ) → le_z a x ≡ false → (lt_z a x ≡ false) × (lt_z x a ≡ true)
+        short_of a h = (sym (omega (arith, ints)), sym (omega (arith, ints)))
+
         ahead : Ahead (drop n ks)
         ahead = elim (cases_lt n (length ks)) [
           | inl l ↦ subst Ahead (sym (drop_more ks n empty l)) (short_of (knot_at ks n).x (r.short l))
           | inr m ↦ subst Ahead (sym (drop_all n ks m)) tt
         ]
 
-    pub slot_at : (n : ℕ) → Reached ks x n → 0 < n → le_z x (knot_at ks (n - 1)).x ≡ true → Slotted ks x (n - 1) n
-    slot_at zero r l h = absurd (omega arith)
-    slot_at (suc m) r l h =
-        let e : m ≡ suc m - 1 = omega arith in
-        let f : m + 1 ≡ suc m = omega arith in
-        let reached : le_z (knot_at ks m).x x ≡ true =
-        subst (λ i. le_z (knot_at ks i).x x ≡ true) (sym e) (r.from l) in
-        let ahead : le_z x (knot_at ks m).x ≡ true = subst (λ i. le_z x (knot_at ks i).x ≡ true) (sym e) h in
-        let both = same_as (knot_at ks m).x reached ahead in
-        subst₂ (Slotted ks x) e f
-        (one_knot m (omega (arith, r.inside)) (earlier m reached r.inside) both.0 both.1)
-      where
-        earlier : (m : ℕ) → le_z (knot_at ks m).x x ≡ true → suc m ≤ length ks → 0 < m
-            → left x (knot_at ks (m - 1)) ≡ true
-        earlier zero e i l = absurd (omega arith)
-        earlier (suc j) e i l =
-            let s : j ≡ suc j - 1 = omega arith in
-            subst (λ n. left x (knot_at ks n) ≡ true) s
-            (before_same (knot_at ks j) (knot_at ks (suc j)) (neighbours_at rightward ks order j i) e)
+-- ---- the search
+
+-- the knots at or below x come before the others
+pub reached_first : (ks : List Knot) → neighbours rightward ks ≡ true → (x : ℤ) → IsPartitionedBy (λ k. le_z k.x x) ks
+reached_first ks o x i j d l h t =
+    let e : i + (j - i) ≡ j = omega arith in
+    subst (λ k. le_z k.x x ≡ true) (get_or_default ks i empty d (omega arith))
+    (down i (j - i) (omega arith)
+    (subst (λ n. le_z (knot_at ks n).x x ≡ true) (sym e)
+    (subst (λ k. le_z k.x x ≡ true) (get_or_default ks j d empty h) t)))
+  where
+    left_of : (a b : Knot) → rightward a b ≡ true → le_z b.x x ≡ true → le_z a.x x ≡ true
+    left_of a b r t = sym (omega (arith, ints))
+
+    down : (i m : ℕ) → i + m < length ks → le_z (knot_at ks (i + m)).x x ≡ true → le_z (knot_at ks i).x x ≡ true
+    down i zero l t = let e : i + 0 ≡ i = omega arith in subst (λ n. le_z (knot_at ks n).x x ≡ true) e t
+    down i (suc m) l t =
+        let e : i + suc m ≡ suc (i + m) = omega arith in
+        down i m (omega arith)
+        (left_of (knot_at ks (i + m)) (knot_at ks (suc (i + m))) (neighbours_at rightward ks o (i + m) (omega arith))
+        (subst (λ n. le_z (knot_at ks n).x x ≡ true) e t))
+
+-- where they end is how many they are
+pub reached_until : (ks : List Knot) (x : ℤ) (n : ℕ) → n ≤ length ks
+    → IsPartitionPoint (λ k. le_z k.x x ≡ true) (λ k. le_z k.x x ≡ false) ks n → Reached ks x n
+reached_until ks x n l p = record {
+  inside = l;
+  from = λ h. p.0 (n - 1) empty (omega arith) (omega arith);
+  short = λ h. p.1 n empty (omega arith) h;
+}

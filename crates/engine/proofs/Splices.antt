@@ -1,7 +1,9 @@
 -- Lists cut open and joined again: the arrays that an edit moves, and the tests of neighbours.
-use Rattle.std.proofs.Common.{◌≡◌, ℕ, zero, suc, ◌+◌, ◌-◌, ◌<◌, ◌≤◌, Bool, true, false, ◌&&◌, ltb, List, [], ◌∷◌, ◌++◌, length, take, drop, set, Some, None, Option, sym, refl, ap, ◌∙◌, subst, ap₂, inl, inr, arith, rules}
+use Rattle.std.proofs.Common.{◌≡◌, ℕ, zero, suc, ◌+◌, ◌-◌, ◌<◌, ◌≤◌, Bool, true, false, ◌&&◌, ltb, List, [], ◌∷◌, ◌++◌, length, take, drop, Some, None, Option, sym, refl, ap, ◌∙◌, subst, ap₂, inl, inr, arith, rules}
 use lib.Seq.{paste}
-use Rattle.std.proofs.lemmas.List.{same_lists, places, get_or-set_same, get_or-set_other, drop_more, drop_all}
+use borrow.Rule.Slice.PartMut.{put_mid}
+use Rattle.std.specs.List.{splice}
+use Rattle.std.proofs.lemmas.List.{same_lists, places, drop_more, drop_all, length-append, length-drop, length-take-le}
 use Rattle.std.proofs.lemmas.Bool.{cases_eq, cases_lt, and_from, and_parts, lt-ltb, le-ltb, ltb-true, cond-true, cond-false}
 use Rattle.engine.specs.declared.knot.Knot.{Knot}
 use Rattle.engine.specs.Drafts.{knot_from, linked}
@@ -12,19 +14,19 @@ use Rattle.engine.specs.Lawfuls.{neighbours_at}
 
 -- ---- arrays
 
-module _ {X : Type 0} (xs : List X) (n start end : ℕ) (order : start ≤ end) (inside : end ≤ n) where
-  -- the first n elements with k in the place of those from start to end
-  pub opened : (k : X) → n ≤ length xs → start + 1 + (n - end) ≤ length xs
-      → take (start + 1 + (n - end)) (set (paste xs (start + 1) (drop end xs) (n - end)) start k)
-      ≡ take start xs ++ (k ∷ drop end (take n xs))
-  opened k h l =
-      same_lists _ _ (search (rules, places))
-      (λ i d b. grind (arith, places, get_or-set_same, get_or-set_other, cases_eq i start, cases_lt i start))
+-- the first n elements of xs with ys in the place of those from start to end: what is behind moves, then ys are copied in
+pub replaced : {X : Type 0} (xs ys : List X) (n start end : ℕ) → start ≤ end → end ≤ n → n ≤ length xs
+    → start + length ys + (n - end) ≤ length xs
+    → take (start + length ys + (n - end))
+    (put_mid start (start + length ys - start) (paste xs (start + length ys) (drop end xs) (n - end)) ys)
+    ≡ splice (take n xs) start end ys
+replaced xs ys n start end order inside h l =
+    same_lists _ _ (search (rules, places))
+    (λ i d b. grind (arith, places, cases_lt i start, cases_lt i (start + length ys)))
 
-  -- the same with nothing in their place
-  pub closed : n ≤ length xs
-      → take (start + (n - end)) (paste xs start (drop end xs) (n - end)) ≡ take start xs ++ drop end (take n xs)
-  closed h = same_lists _ _ (search (rules, places)) (λ i d b. grind (arith, places, cases_lt i start))
+pub splice_length : {X : Type 0} (xs ys : List X) (start end : ℕ) → start ≤ length xs
+    → length (splice xs start end ys) ≡ start + length ys + (length xs - end)
+splice_length xs ys start end h = simp (length-append, length-drop) (omega (arith, length-take-le start xs h))
 
 -- ---- tests of neighbours
 

@@ -1,14 +1,18 @@
 -- Stored slopes as the code computes them, and the products that fit 64 bits.
-use Rattle.std.proofs.Common.{◌≡◌, ℕ, zero, suc, ◌+◌, ◌-◌, ◌*◌, ◌/◌, ◌<◌, ◌≤◌, true, cond, ◌||◌, eqb, ◌⊎◌, List, length, get_or, set, ℤ, pos, sym, ap, ◌∙◌, subst, subst₂, inl, inr, le_trans, mul-le-mul_right, mul-le-mul, mul-le-mul_left, arith}
-use native.Mathlib.Decide.{dec_le, dec_lt}
-use Rattle.std.proofs.lemmas.List.{get_or-set_same, get_or-set_other}
-use Rattle.std.proofs.lemmas.Bool.{eq-eqb, ne_eqb, or_left, or_right, or_from}
+use Rattle.std.proofs.Common.{◌≡◌, ℕ, zero, suc, ◌+◌, ◌-◌, ◌*◌, ◌/◌, ◌<◌, ◌≤◌, true, cond, ◌||◌, eqb, ◌⊎◌, List, length, ℤ, pos, negsuc, ◌+ℤ◌, ◌≤ℤ◌, w32, SFits, refl, sym, ap, ◌∙◌, subst, subst₂, ap₂, inl, inr, le_trans, mul-le-mul_right, mul-le-mul, mul-le-mul_left, arith}
+use native.Mathlib.Decide.{dec_le}
+use Rattle.std.specs.Prelude.{slice_index}
+use Rattle.std.specs.Array.{IsFromFnResult, IsFromFnResultFrom}
+use Rattle.std.specs.Fn.{Called, Mut}
+use Rattle.std.proofs.lemmas.Bool.{cases_eq, eq-eqb, ne_eqb, or_left, or_right, or_from}
 use Rattle.engine.specs.Fraction.{whole, ◌÷◌, ◌*ᶠ◌}
+use Rattle.engine.specs.Coordinates.{Coordinate, lowest, highest}
 use Rattle.engine.specs.Pieces.{width, height}
 use Rattle.engine.specs.declared.knot.Knot.{Knot}
 use Rattle.engine.specs.Knots.{curve_knots, knot_at}
-use Rattle.engine.specs.Neighbours.{piece_width, piece_height}
-use Rattle.engine.specs.Tables.{stored, secant, inner_slope, end_slope, slope}
+use Rattle.engine.specs.Neighbours.{Neighbours, piece_width, piece_height}
+use borrow.Author.Differences.{ints}
+use Rattle.engine.specs.Tables.{stored, stored_at, secant, inner_slope, end_slope, slope}
 
 -- ---- the quotients
 
@@ -84,53 +88,91 @@ module _ (ha da hb db : ℕ) where
       two : hb + 2 * ha ≤ 12288
       two = omega arith
 
+-- ---- the width and the height of a piece
+
+of_coordinate : (z : ℤ) → Coordinate z → SFits w32 z
+of_coordinate (pos n) c = let high = c.high in record { sfits = omega (arith, ints) }
+of_coordinate (negsuc n) c = let low = c.low in record { sfits = omega (arith, ints) }
+
+module _ {p q : Knot} (n : Neighbours p q) where
+  pub wide : 0 < piece_width p q
+  wide = let r = n.rises in omega (arith, ints)
+
+  pub narrow : piece_width p q ≤ 4096
+  narrow = let r = n.near in let s = n.rises in omega (arith, ints)
+
+  pub low : piece_height p q ≤ 16383
+  low =
+      let l = n.y_start.low in let h = n.y_end.high in let u = n.upward in omega (arith, ints)
+
+  -- what is no higher than the piece ends at a coordinate
+  pub climbed : (r : ℕ) → r ≤ piece_height p q → Coordinate (p.y +ℤ pos r)
+  climbed r l =
+      let s = n.y_start.low in
+      let e = n.y_end.high in
+      let u = n.upward in
+      record { low = omega (arith, ints); high = omega (arith, ints, l) }
+
+  pub climbed_fits : (r : ℕ) → r ≤ piece_height p q → SFits w32 (p.y +ℤ pos r)
+  climbed_fits r l =
+      of_coordinate (p.y +ℤ pos r) (climbed r l)
+
 -- ---- the stored slope at knot i of a list: at its ends, and between
 
+-- the stored secant of the piece from p to q; the stored slope between two pieces
+abbrev end_of : (p q : Knot) → ℤ
+end_of p q = stored (pos (piece_height p q) ÷ piece_width p q)
+
+abbrev inner_of : (p q r s : Knot) → ℤ
+inner_of p q r s = stored (inner_slope (piece_width p q) (piece_height p q) (piece_width r s) (piece_height r s))
+
 module _ (ks : List Knot) where
-  -- the stored secant of the piece from knot a to knot b
-  abbrev end_at : ℕ → ℕ → ℤ
-  end_at a b = stored (pos (piece_height (knot_at ks a) (knot_at ks b)) ÷ piece_width (knot_at ks a) (knot_at ks b))
+  abbrev SlopeIs : ℕ → ℕ → Type 0
+  SlopeIs i r = pos r ≡ stored_at ks i
 
-  -- the stored slope at knot b, between knots a and c
-  abbrev inner_at : ℕ → ℕ → ℕ → ℤ
-  inner_at a b c =
-      stored (inner_slope (piece_width (knot_at ks a) (knot_at ks b)) (piece_height (knot_at ks a) (knot_at ks b))
-      (piece_width (knot_at ks b) (knot_at ks c)) (piece_height (knot_at ks b) (knot_at ks c)))
+  pub slope_first : (i r : ℕ) (p q : Knot) → i ≡ 0 → p ≡ knot_at ks 0 → q ≡ knot_at ks 1 → pos r ≡ end_of p q
+      → SlopeIs i r
+  unfolding slope end_slope secant width height
+  slope_first zero r p q e f g h = h ∙ ap₂ end_of f g
+  slope_first (suc i) r p q e f g h = absurd (omega arith)
 
-abbrev SlopeIs : List Knot → ℕ → ℕ → Type 0
-SlopeIs ks i r = pos r ≡ stored (slope (curve_knots ks) (length ks - 1) i)
+  pub slope_last : (i r : ℕ) (p q : Knot) → 0 < i → i + 1 ≡ length ks → p ≡ knot_at ks (i - 1)
+      → q ≡ knot_at ks (i - 1 + 1) → pos r ≡ end_of p q → SlopeIs i r
+  unfolding slope end_slope secant width height
+  slope_last zero r p q l e f g h = absurd (omega arith)
+  slope_last (suc i) r p q l e f g h =
+      let t = eq-eqb (suc i) (length ks - 1) (omega arith) in
+      let j : suc i - 1 ≡ i = omega arith in
+      let n : suc i - 1 + 1 ≡ suc i = omega arith in
+      rw t (h ∙ ap₂ end_of (f ∙ ap (knot_at ks) j) (g ∙ ap (knot_at ks) n))
 
-pub slope_first : (ks : List Knot) (i r : ℕ) → i ≡ 0 → pos r ≡ end_at ks 0 1 → SlopeIs ks i r
-unfolding slope end_slope secant width height
-slope_first ks zero r e h = h
-slope_first ks (suc i) r e h = absurd (omega arith)
+  pub slope_inner : (i x : ℕ) (p q r s : Knot) → 0 < i → i + 1 < length ks → p ≡ knot_at ks (i - 1)
+      → q ≡ knot_at ks (i - 1 + 1) → r ≡ knot_at ks i → s ≡ knot_at ks (i + 1) → pos x ≡ inner_of p q r s → SlopeIs i x
+  unfolding slope width height
+  slope_inner zero x p q r s l b e f g k h = absurd (omega arith)
+  slope_inner (suc i) x p q r s l b e f g k h =
+      let t = ne_eqb (suc i) (length ks - 1) (λ e. omega arith) in
+      let j : suc i - 1 ≡ i = omega arith in
+      let m : suc i - 1 + 1 ≡ suc i = omega arith in
+      let n : suc i + 1 ≡ suc (suc i) = omega arith in
+      rw t
+      (h
+      ∙ ap₂ (λ p q. inner_of p q r s) (e ∙ ap (knot_at ks) j) (f ∙ ap (knot_at ks) m)
+      ∙ ap₂ (inner_of (knot_at ks i) (knot_at ks (suc i))) g (k ∙ ap (knot_at ks) n))
 
-pub slope_last : (ks : List Knot) (i r : ℕ) → 0 < i → i + 1 ≡ length ks → pos r ≡ end_at ks (i - 1) i
-    → SlopeIs ks i r
-unfolding slope end_slope secant width height
-slope_last ks zero r p e h = absurd (omega arith)
-slope_last ks (suc i) r p e h =
-    let t = eq-eqb (suc i) (length ks - 1) (omega arith) in
-    let j : suc i - 1 ≡ i = omega arith in
-    rw t (subst (λ n. pos r ≡ end_at ks n (suc i)) j h)
+-- ---- an array made by a call for each index: what holds of each call holds of each element
 
-pub slope_inner : (ks : List Knot) (i r : ℕ) → 0 < i → i + 1 < length ks → pos r ≡ inner_at ks (i - 1) i (i + 1)
-    → SlopeIs ks i r
-unfolding slope width height
-slope_inner ks zero r p l h = absurd (omega arith)
-slope_inner ks (suc i) r p l h =
-    let t = ne_eqb (suc i) (length ks - 1) (λ e. omega arith) in
-    let j : suc i - 1 ≡ i = omega arith in
-    let n : suc i + 1 ≡ suc (suc i) = omega arith in
-    rw t (subst₂ (λ m n. pos r ≡ inner_at ks m (suc i) n) j n h)
+module _ {F : Type 0} (g : Mut F (ℕ × Unit {0}) ℕ) (f : F) (P : ℕ → ℕ → Type 0)
+    (call : (i y : ℕ) (q : F) → Called g f (i, tt) y q → (q ≡ f) × P i y) (ys : List ℕ) where
+  each_from : (i n : ℕ) (p : F) → p ≡ f → IsFromFnResultFrom g p ys i n → (j : ℕ) → i ≤ j → j < i + n
+      → P j (slice_index ys j)
+  each_from i zero p s r j l h = absurd (omega arith)
+  each_from i (suc n) p s r j l h =
+      let made = call i r.1 r.0 (subst (λ p. Called g p (i, tt) r.1 r.0) s r.3) in
+      elim (cases_eq i j) [
+        | inl e ↦ subst (λ k. P k (slice_index ys k)) e (subst (P i) (sym (r.2.1 0)) made.1)
+        | inr d ↦ each_from (i + 1) n r.0 made.0 r.4 j (omega arith) (omega arith)
+      ]
 
--- ---- a list of numbers filled from the front: what holds of the first i holds of one more
-
-pub one_more : (f : ℕ → ℤ) (xs : List ℕ) (i r : ℕ) → i < length xs → ((j : ℕ) → j < i → pos (get_or xs j 0) ≡ f j)
-    → pos r ≡ f i → (j : ℕ) → j < i + 1 → pos (get_or (set xs i r) j 0) ≡ f j
-one_more f xs i r l h e j k = elim (dec_lt j i) [
-  | yes m ↦ ap pos (get_or-set_other xs i j r 0 (λ n. omega arith)) ∙ h j m
-  | no m ↦
-      (let s : i ≡ j = omega arith in
-      subst (λ n. pos (get_or (set xs i r) n 0) ≡ f n) s (ap pos (get_or-set_same xs i r 0 l) ∙ e))
-]
+  pub each_made : (n : ℕ) → IsFromFnResult g f ys n → (j : ℕ) → j < n → P j (slice_index ys j)
+  each_made n r j h = each_from 0 n f refl r.each j (omega arith) (omega arith)

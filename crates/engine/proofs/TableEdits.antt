@@ -8,48 +8,20 @@ use Rattle.engine.specs.Edits.{knots_of, curve_of, Has, put_refusal, drop_refusa
 use Rattle.engine.specs.Knots.{fewest, most, empty, knot, knot_at, lawful, with_knot, without_knot}
 use Rattle.engine.specs.Theorems.{TableLaw}
 use Rattle.engine.specs.declared.table.KnotTable.{KnotTable}
-use Rattle.engine.proofs.KnotEdits.{put_lawful, put_few, with_length, put_stay, put_none}
-use Rattle.engine.proofs.KnotEdits.{drop_lawful, drop_some, drop_stay, drop_none, drop_gone}
+use Rattle.engine.proofs.KnotEdits.{with_length, put_stay, put_none, drop_stay, drop_none, drop_gone}
+use Rattle.engine.proofs.Lists.{enough}
 use Rattle.engine.specs.Lawfuls.{parts}
 use Rattle.engine.proofs.TableLaws.{table_laws_lem}
 
--- a table has as many knots as it counts
-pub size : (t : KnotTable) → length (knots_of t) ≡ t.count
-size t = length-take-le t.count t.knots (omega (arith, t.few, t.long))
-
--- it passes through its knots
+-- a table passes through its knots
 through : (t : KnotTable) → TableLaw t.kind (knots_of t)
-through t = table_laws_lem.through t.kind (knots_of t) (omega (arith, size t, t.some)) t.ok
+through t = table_laws_lem.through t.kind (knots_of t) (enough t.list) t.list.ok
 
 module _ (was : KnotTable) (x : ℤ) (start end : ℕ) (s : Slotted (knots_of was) x start end) where
   abbrev ks : List Knot
   ks = knots_of was
 
-  inside : end ≤ was.count
-  inside = omega (arith, s.inside, size was)
-
-  taken : take start was.knots ≡ take start ks
-  taken = sym (take-take start was.count was.knots (omega (arith, s.order, inside)))
-
-  -- ---- put
-
   module _ (y : ℤ) (none : put_refusal x y ks ≡ None) where
-    abbrev count : ℕ
-    count = start + 1 + (was.count - end)
-
-    pub put_fits : count ≤ most
-    put_fits = omega (arith, put_few ks x start end s was.ok y none, size was)
-
-    pub put_some : fewest ≤ count
-    put_some = omega (arith, was.some, s.narrow, s.order, inside)
-
-    module _ (new : List Knot) (New-is : take count new ≡ take start was.knots ++ (knot x y ∷ drop end ks)) where
-      pub put_knots : take count new ≡ with_knot x y ks
-      put_knots = New-is ∙ ap (λ l. l ++ (knot x y ∷ drop end ks)) taken ∙ sym (s.with_is y)
-
-      pub put_ok : lawful (take count new) ≡ true
-      put_ok = ap lawful put_knots ∙ put_lawful ks x start end s was.ok y none
-
     pub put_done : (t : KnotTable) → knots_of t ≡ with_knot x y ks → t.kind ≡ was.kind → Put x y was t
     put_done t e k = record {
       knots_are = e;
@@ -61,7 +33,7 @@ module _ (was : KnotTable) (x : ℤ) (start end : ℕ) (s : Slotted (knots_of wa
     }
       where
         in_new : start < length (knots_of t)
-        in_new = omega (arith, ap length e, with_length ks x start end s was.ok y)
+        in_new = omega (arith, ap length e, with_length ks x start end s was.list.ok y)
 
         here : knot_at (knots_of t) start ≡ knot x y
         here =
@@ -71,30 +43,12 @@ module _ (was : KnotTable) (x : ℤ) (start end : ℕ) (s : Slotted (knots_of wa
             (length-take-le start ks (omega (arith, s.order, s.inside))) (omega arith)
             ∙ ap (knot_at (knot x y ∷ drop end ks)) none_before
 
-  -- ---- drop
-
   module _ (none : drop_refusal x ks ≡ None) where
-    abbrev left : ℕ
-    left = start + (was.count - end)
-
-    pub drop_enough : fewest ≤ left
-    drop_enough = omega (arith, drop_some ks x start end s was.ok none, size was)
-
-    pub drop_fits : left ≤ most
-    drop_fits = omega (arith, was.few, s.order, inside)
-
-    module _ (new : List Knot) (New-is : take left new ≡ take start was.knots ++ drop end ks) where
-      pub drop_knots : take left new ≡ without_knot x ks
-      drop_knots = New-is ∙ ap (λ l. l ++ drop end ks) taken ∙ sym s.without_is
-
-      pub drop_ok : lawful (take left new) ≡ true
-      drop_ok = ap lawful drop_knots ∙ drop_lawful ks x start end s was.ok none
-
     pub drop_done : (t : KnotTable) → knots_of t ≡ without_knot x ks → t.kind ≡ was.kind → Dropped x was t
     drop_done t e k = record {
       knots_are = e;
       kind_kept = k;
-      gone = λ j h. drop_gone x j ks (parts ks was.ok).1 (subst (Has j) e h);
+      gone = λ j h. drop_gone x j ks (parts ks was.list.ok).1 (subst (Has j) e h);
       others_stay = λ j o h. subst (Has j) (sym e) (drop_stay x j o ks h);
       none_comes = λ j h. drop_none x j ks (subst (Has j) e h);
     }

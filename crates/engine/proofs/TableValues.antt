@@ -3,6 +3,7 @@ use Rattle.std.proofs.Common.{◌≡◌, ℕ, zero, suc, ◌+◌, ◌-◌, ◌*�
 use lib.Signed.{le_z}
 use borrow.Author.Differences.{ints}
 use Rattle.std.proofs.lemmas.Bool.{ne_eqb}
+use Rattle.std.proofs.Math.Numerals.{add-one}
 use Rattle.engine.specs.Coordinates.{furthest}
 use Rattle.engine.specs.Fraction.{Fraction, whole, roundᶠ}
 use Rattle.engine.specs.Pieces.{width, height}
@@ -13,8 +14,8 @@ use Rattle.engine.specs.Lines.{line_piece}
 use Rattle.engine.specs.Orders.{leZ_true, leZ_false}
 use Rattle.engine.specs.Drafts.{Reached}
 use Rattle.engine.specs.Knots.{fewest, knot_at, curve_knot, curve_knots, lawful}
-use Rattle.engine.specs.Neighbours.{Gentle, Piece, piece_value, piece_rise}
-use Rattle.engine.specs.Tables.{slope, stored, value_from, greatest, table_value, table_rise, secant}
+use Rattle.engine.specs.Neighbours.{Gentle, Neighbours, piece_value, piece_rise}
+use Rattle.engine.specs.Tables.{Slopes, slope, stored, value_from, greatest, table_value, table_rise, secant}
 use Rattle.engine.specs.declared.kind.Kind.{Kind}
 use Rattle.engine.specs.declared.kind.Kind.TheVariants.{Step, Line, Cubic}
 use Rattle.engine.specs.CubicPieces.{Slope}
@@ -90,7 +91,7 @@ module _ (ks : List Knot) (some : fewest ≤ length ks) (ok : lawful ks ≡ true
     inner : n - 1 < top
     inner = omega arith
 
-    pub reached_piece : Piece (k (n - 1)) (k n)
+    pub reached_piece : Neighbours (k (n - 1)) (k n)
     reached_piece = piece_before ks ok n begun short
 
     pub reached_from : (k (n - 1)).x ≤ℤ x
@@ -99,8 +100,7 @@ module _ (ks : List Knot) (some : fewest ≤ length ks) (ok : lawful ks ≡ true
     pub reached_short : x ≤ℤ (k n).x
     reached_short = leZ_false (k n).x x (r.short short)
 
-    module _ (slopes : List ℕ)
-        (steep : (i : ℕ) → i < length ks → pos (get_or slopes i 0) ≡ stored (slope (curve_knots ks) (length ks - 1) i)) where
+    module _ (slopes : List ℕ) (steep : Slopes ks slopes) where
       pub reached_start : Gentle (k (n - 1)) (k n) (get_or slopes (n - 1) 0)
       reached_start =
           subst (λ i. Gentle (k (n - 1)) (k i) (get_or slopes (n - 1) 0)) next
@@ -134,16 +134,13 @@ pub steepest_none : (kind : Kind) (k : ℕ → Knot) → 0 ≡ steepest kind k 0
 unfolding steepest greatest
 steepest_none kind k = refl
 
--- a turn of the loop at knot i, and its end
-pub steepest_turn : (kind : Kind) (k : ℕ → Knot) (i a r s : ℕ) → 0 < i → a ≡ steepest kind k (i - 1)
-    → r ≡ piece_rise kind (k (i - 1)) (k i) → s ≡ max r a → s ≡ steepest kind k (i + 1 - 1)
+-- a turn of the loop at piece i, which goes from p to q
+pub steepest_turn : (kind : Kind) (k : ℕ → Knot) (i a s : ℕ) (p q : Knot) → a ≡ steepest kind k i → p ≡ k i
+    → q ≡ k (i + 1) → s ≡ max (piece_rise kind p q) a → s ≡ steepest kind k (i + 1)
 unfolding steepest greatest
-steepest_turn kind k zero a r s l inv told up = absurd (omega arith)
-steepest_turn kind k (suc i) a r s l inv told up =
-    let e : suc i - 1 ≡ i = omega arith in
-    let f : suc i ≡ suc i + 1 - 1 = omega arith in
-    subst (λ n. s ≡ steepest kind k n) f
-    (up ∙ ap₂ max (told ∙ ap (λ j. piece_rise kind (k j) (k (suc i))) e) (inv ∙ ap (steepest kind k) e))
+steepest_turn kind k i a s p q inv start end up =
+    subst (λ n. s ≡ steepest kind k n) (sym (add-one i))
+    (up ∙ ap₂ max (ap₂ (piece_rise kind) start (end ∙ ap k (add-one i))) inv)
 
 -- held, it is the table's; steps and lines need no holding
 held : (a : ℕ) → a ≤ furthest → min a furthest ≡ a
@@ -156,11 +153,6 @@ steepest_is Step k n lawful = held _ (kind_rules Step (as_curve k) n lawful).ris
 steepest_is Line k n lawful = held _ (kind_rules Line (as_curve k) n lawful).rise_fits
 steepest_is Cubic k n lawful = refl
 
-pub steepest_end : (kind : Kind) (ks : List Knot) (i a r : ℕ) → fewest ≤ length ks → lawful ks ≡ true → i ≤ length ks
-    → length ks ≤ i → a ≡ steepest kind (knot_at ks) (i - 1) → r ≡ min a furthest
-    → r ≡ table_rise kind (curve_knots ks) (length ks - 1)
-steepest_end kind ks i a r some ok l m inv told =
-    let e : i - 1 ≡ length ks - 1 = omega arith in
-    told
-    ∙ ap (λ n. min n furthest) (inv ∙ ap (steepest kind (knot_at ks)) e)
-    ∙ steepest_is kind (knot_at ks) (length ks - 1) (lawful_list ks ok some)
+pub steepest_held : (kind : Kind) (ks : List Knot) → fewest ≤ length ks → lawful ks ≡ true
+    → min (steepest kind (knot_at ks) (length ks - 1)) furthest ≡ table_rise kind (curve_knots ks) (length ks - 1)
+steepest_held kind ks some ok = steepest_is kind (knot_at ks) (length ks - 1) (lawful_list ks ok some)

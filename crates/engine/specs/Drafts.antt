@@ -1,5 +1,6 @@
 -- What the steps of an edit promise one another.
-use Rattle.std.specs.Prelude.{◌≡◌, ℕ, suc, ◌-◌, ◌<◌, ◌≤◌, Bool, true, false, cond, ◌&&◌, List, ◌∷◌, ◌++◌, length, take, drop, ℤ, Some, None, Option, int_le, nat_lt}
+use Rattle.std.specs.Prelude.{◌≡◌, ℕ, suc, ◌-◌, ◌<◌, ◌≤◌, Bool, true, false, cond, ◌&&◌, List, [], ◌∷◌, length, ℤ, Some, None, Option, int_le, nat_lt}
+use Rattle.std.specs.List.{splice}
 use Rattle.engine.specs.declared.knot.Knot.{Knot}
 use Rattle.engine.specs.Edits.{before, knots_of}
 use Rattle.engine.specs.Knots.{knot, knot_at, rightward, with_knot, has_knot, without_knot}
@@ -35,8 +36,8 @@ pub record Slotted (ks : List Knot) (x : ℤ) (start end : ℕ) : Type 0 where
   pub left : (y : ℤ) → linked rightward (before ks start) (Some (knot x y)) ≡ true
   pub right : (y : ℤ) → linked rightward (Some (knot x y)) (knot_from ks end) ≡ true
   pub found : has_knot x ks ≡ nat_lt start end
-  pub with_is : (y : ℤ) → with_knot x y ks ≡ take start ks ++ (knot x y ∷ drop end ks)
-  pub without_is : without_knot x ks ≡ take start ks ++ drop end ks
+  pub with_is : (y : ℤ) → with_knot x y ks ≡ splice ks start end (knot x y ∷ [])
+  pub without_is : without_knot x ks ≡ splice ks start end []
 
 -- the table of the knots ks and of a kind
 pub record IsTable (ks : List Knot) (kind : Kind) (t : KnotTable) : Type 0 where

@@ -1,5 +1,5 @@
 -- The edits of a knot table: why each is refused, what it makes of the table, and what the table then has.
-use Rattle.std.specs.Prelude.{◌≡◌, ℕ, zero, suc, ◌<◌, cond, not, ◌&&◌, ◌||◌, ◌⊎◌, List, [], ◌∷◌, length, take, ℤ, pos, Some, None, Ok, Err, Option, Result, int_le, nat_lt}
+use Rattle.std.specs.Prelude.{◌≡◌, ℕ, zero, suc, ◌<◌, cond, not, ◌&&◌, ◌||◌, ◌⊎◌, List, [], ◌∷◌, length, ℤ, pos, Some, None, Ok, Err, Option, Result, int_le, nat_lt}
 use Rattle.engine.specs.Coordinates.{coordinate}
 use Rattle.engine.specs.Curves.{Meaning}
 use Rattle.engine.specs.Fraction.{whole, ◌≈ᶠ◌}
@@ -11,12 +11,13 @@ use Rattle.engine.specs.Knots.{fewest, most, knot_at, fits, rightward, near, upw
 use Rattle.engine.specs.Knots.{with_knot, has_knot, without_knot}
 use Rattle.engine.specs.Tables.{table_curve, kind_number}
 use Rattle.engine.specs.declared.table.KnotTable.{KnotTable}
+use Rattle.engine.specs.Lists.{listed}
 
 -- ---- a table
 
 -- its knots
 abbrev pub knots_of : KnotTable → List Knot
-knots_of t = take t.count t.knots
+knots_of t = listed t.list
 
 -- what it means
 abbrev pub curve_of : KnotTable → Meaning

@@ -8,7 +8,7 @@ use Rattle.engine.specs.Coordinates.{Coordinate, coordinate, lowest}
 use Rattle.engine.specs.declared.knot.Knot.{Knot}
 use Rattle.engine.specs.Orders.{leZ_true}
 use Rattle.engine.specs.Knots.{fewest, knot_at, curve_knots, fits, each, neighbours, rightward, near, upward, lawful}
-use Rattle.engine.specs.Neighbours.{Piece}
+use Rattle.engine.specs.Neighbours.{Neighbours}
 
 -- ---- what a test says of its numbers
 
@@ -65,7 +65,7 @@ module _ (ks : List Knot) (ok : lawful ks ≡ true) where
   }
 
   -- the piece from knot i to the next
-  pub piece_at_lem : (i : ℕ) → suc i < length ks → Piece (knot_at ks i) (knot_at ks (suc i))
+  pub piece_at_lem : (i : ℕ) → suc i < length ks → Neighbours (knot_at ks i) (knot_at ks (suc i))
   piece_at_lem i l = record {
     x_start = (fits_at i (omega arith)).0;
     y_start = (fits_at i (omega arith)).1;
@@ -77,12 +77,12 @@ module _ (ks : List Knot) (ok : lawful ks ≡ true) where
   }
 
   -- the same by the index of its end, and with i + 1
-  pub piece_before : (i : ℕ) → 0 < i → i < length ks → Piece (knot_at ks (i - 1)) (knot_at ks i)
+  pub piece_before : (i : ℕ) → 0 < i → i < length ks → Neighbours (knot_at ks (i - 1)) (knot_at ks i)
   piece_before zero some l = absurd (omega arith)
   piece_before (suc i) some l =
-      let e : i ≡ suc i - 1 = omega arith in subst (λ j. Piece (knot_at ks j) (knot_at ks (suc i))) e (piece_at_lem i l)
+      let e : i ≡ suc i - 1 = omega arith in subst (λ j. Neighbours (knot_at ks j) (knot_at ks (suc i))) e (piece_at_lem i l)
 
-  pub piece_after : (i : ℕ) → i + 1 < length ks → Piece (knot_at ks i) (knot_at ks (i + 1))
+  pub piece_after : (i : ℕ) → i + 1 < length ks → Neighbours (knot_at ks i) (knot_at ks (i + 1))
   piece_after i l =
       let e : suc i ≡ i + 1 = omega arith in
-      subst (λ j. Piece (knot_at ks i) (knot_at ks j)) e (piece_at_lem i (omega arith))
+      subst (λ j. Neighbours (knot_at ks i) (knot_at ks j)) e (piece_at_lem i (omega arith))

@@ -10,6 +10,7 @@ pub mod Bands
 pub mod Knots
 pub mod Tables
 pub mod Neighbours
+pub mod Lists
 pub mod Edits
 pub mod Drafts
 pub mod Theorems

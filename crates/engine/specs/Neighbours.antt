@@ -1,4 +1,4 @@
--- One piece of a table by its two knots.
+-- Two neighbouring knots of a table, and the piece between them.
 use Rattle.std.specs.Prelude.{ℕ, ◌*◌, ◌≤◌, ℤ, pos, ◌+ℤ◌, ◌-ℤ◌, ◌≤ℤ◌, ◌<ℤ◌, unsigned_abs}
 use Rattle.engine.specs.Coordinates.{Coordinate}
 use Rattle.engine.specs.Fraction.{whole, ◌÷◌, roundᶠ}
@@ -10,7 +10,7 @@ use Rattle.engine.specs.declared.kind.Kind.{Kind}
 use Rattle.engine.specs.declared.kind.Kind.TheVariants.{Step, Line, Cubic}
 
 -- what the rules of a table say of two neighbours
-pub record Piece (p q : Knot) : Type 0 where
+pub record Neighbours (p q : Knot) : Type 0 where
   pub x_start : Coordinate p.x
   pub y_start : Coordinate p.y
   pub x_end : Coordinate q.x

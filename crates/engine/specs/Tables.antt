@@ -1,7 +1,7 @@
 -- Knot tables as curves: the value V, the exact value E, the rise S and the radius R of steps, straight lines and
 -- monotone cubics through knots. The knots are given by index: `k i` for i from 0 to `top`. Piece i goes from knot i to
 -- knot i + 1; h is its width and D its height.
-use Rattle.std.specs.Prelude.{ℕ, zero, suc, ◌+◌, ◌-◌, ◌*◌, min, max, cond, ◌||◌, List, length, ℤ, pos, ◌+ℤ◌, ◌-ℤ◌, ◌*ℤ◌, ◌==◌, int_le, unsigned_abs}
+use Rattle.std.specs.Prelude.{◌≡◌, ℕ, zero, suc, ◌+◌, ◌-◌, ◌*◌, ◌<◌, slice_index, min, max, cond, ◌||◌, List, length, ℤ, pos, ◌+ℤ◌, ◌-ℤ◌, ◌*ℤ◌, ◌==◌, int_le, unsigned_abs}
 use Rattle.engine.specs.Coordinates.{furthest}
 use Rattle.engine.specs.Curves.{Meaning, meaning}
 use Rattle.engine.specs.Fraction.{Fraction, whole, ◌÷◌, ◌+ᶠ◌, ◌-ᶠ◌, ◌*ᶠ◌, ◌/ᶠ◌, leᶠ, floorᶠ, ceilᶠ, roundᶠ}
@@ -17,12 +17,18 @@ use Rattle.engine.specs.declared.kind.Kind.TheVariants.{Step, Line, Cubic}
 unfoldable pub secant : (ℕ → Knot) → ℕ → Fraction
 secant k i = pos (height k i) ÷ width k i
 
--- m at a knot between a piece of width ha and height Da and one of width hb and height Db: 0 where either is flat,
--- otherwise the mean of the two secants by Fritsch and Butland
+-- the mean of the secants of a piece of width ha and height Da and of one of width hb and height Db, by Fritsch and
+-- Butland: its numerator and its denominator
+abbrev pub mean_top : (ha Da hb Db : ℕ) → ℕ
+mean_top ha Da hb Db = 3 * (ha + hb) * Da * Db
+
+abbrev pub mean_bottom : (ha Da hb Db : ℕ) → ℕ
+mean_bottom ha Da hb Db = (2 * hb + ha) * ha * Db + (hb + 2 * ha) * hb * Da
+
+-- m at a knot between two such pieces: 0 where either is flat, otherwise that mean
 unfoldable pub inner_slope : (ha Da hb Db : ℕ) → Fraction
 inner_slope ha Da hb Db =
-    cond (Da == 0 || Db == 0) (whole (pos 0))
-    (pos (3 * (ha + hb) * Da * Db) ÷ ((2 * hb + ha) * ha * Db + (hb + 2 * ha) * hb * Da))
+    cond (Da == 0 || Db == 0) (whole (pos 0)) (pos (mean_top ha Da hb Db) ÷ mean_bottom ha Da hb Db)
 
 -- m at an end knot, with piece i next to it: the secant of that piece
 unfoldable pub end_slope : (ℕ → Knot) → ℕ → Fraction
@@ -37,6 +43,13 @@ slope k top (suc i) =
 -- the stored slope M: the greatest whole number not above 2048 m
 abbrev pub stored : Fraction → ℤ
 stored m = floorᶠ (whole (pos 2048) *ᶠ m)
+
+-- M at knot i of a list, and such slopes for each knot
+abbrev pub stored_at : List knot.Knot → ℕ → ℤ
+stored_at ks i = stored (slope (curve_knots ks) (length ks - 1) i)
+
+abbrev pub Slopes : List knot.Knot → List ℕ → Type 0
+Slopes ks slopes = (i : ℕ) → i < length ks → pos (slice_index slopes i) ≡ stored_at ks i
 
 -- ---- cubic pieces, from the knot s
 

@@ -5,11 +5,12 @@ ghost use Rattle.engine.specs.Refusals.{Outcome, load_told, told};
 ghost use Rattle.engine.specs.Drafts.{IsTable};
 ghost use Rattle.engine.specs.Edits.{Dropped, Edited, Loaded, NamesFirst, Put, Rekinded, WhereRefused};
 ghost use Rattle.engine.specs.Edits.{drop_refusal, kind_refusal, knots_of, load_refusal, put_refusal};
+ghost use Rattle.engine.specs.Lists.{listed};
 ghost use Rattle.engine.specs.Knots.{start_knots};
 ghost use Rattle.engine.specs.declared.kind.Kind.TheVariants.{Line as LineKind};
 
-use super::draft::{check_drop, check_put, filled, inserted, made, removed};
 use super::faults::check_knots;
+use super::list::KnotList;
 use super::{FEWEST, KnotTable, MOST};
 use crate::kind::Kind;
 use crate::knot::Knot;
@@ -29,14 +30,14 @@ impl KnotTable {
     pub fn new() -> KnotTable
         ensures { IsTable start_knots LineKind result }
     {
-        made(filled(&START), START.len(), Kind::Line)
+        KnotTable::of(KnotList::new(&START), Kind::Line)
     }
 
     /// The knots, in order of x.
     pub fn knots(&self) -> &[Knot]
         ensures { result.now ≡ knots_of self.now }
     {
-        &self.knots[..self.count]
+        self.list.as_slice()
     }
 
     /// The knots ks in place of the table's; the kind stays.
@@ -49,11 +50,11 @@ impl KnotTable {
             (Loaded ks.now self.old) result self.old self.new }
         ensures blame { WhereRefused load_told (NamesFirst ks.now) result }
     {
-        if ks.len() < FEWEST || ks.len() > MOST {
+        if !(FEWEST..=MOST).contains(&ks.len()) {
             return Err(LoadRefusal::Whole(Refusal::KnotCount));
         }
         check_knots(ks)?;
-        *self = made(filled(ks), ks.len(), self.kind);
+        *self = KnotTable::of(KnotList::new(ks), self.kind);
         Ok(())
     }
 
@@ -93,12 +94,22 @@ impl KnotTable {
             _ => return Err(Refusal::UnknownKind),
         };
         *self = KnotTable {
-            knots: self.knots,
+            list: self.list,
             slopes: self.slopes,
-            count: self.count,
             kind,
         };
         Ok(())
+    }
+
+    // The table of a list and of a kind.
+    fn of(list: KnotList, kind: Kind) -> KnotTable
+        ensures { IsTable (listed list) kind result }
+    {
+        KnotTable {
+            slopes: list.slopes(),
+            list,
+            kind,
+        }
     }
 
     // The table with k put.
@@ -106,19 +117,15 @@ impl KnotTable {
         ensures { Outcome told (put_refusal k.x k.y (knots_of self.now))
             (Put k.x k.y self.now) result }
     {
-        let slot = check_put(self.knots(), k)?;
-        let knots = inserted(&self.knots, self.count, slot, k);
-        let count = slot.start + 1 + (self.count - slot.end);
-        Ok(made(knots, count, self.kind))
+        let slot = self.list.slot_to_put(k)?;
+        Ok(KnotTable::of(self.list.spliced(slot, &[k]), self.kind))
     }
 
     // The table without its knot at x.
     fn without_knot(&self, x: i32) -> Result<KnotTable, Refusal>
         ensures { Outcome told (drop_refusal x (knots_of self.now)) (Dropped x self.now) result }
     {
-        let slot = check_drop(self.knots(), x)?;
-        let knots = removed(&self.knots, self.count, slot);
-        let count = slot.start + (self.count - slot.end);
-        Ok(made(knots, count, self.kind))
+        let slot = self.list.slot_to_drop(x)?;
+        Ok(KnotTable::of(self.list.spliced(slot, &[]), self.kind))
     }
 }

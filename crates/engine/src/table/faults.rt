@@ -1,6 +1,6 @@
 //! What is wrong with knots.
 
-ghost use Rattle.std.specs.Prelude.{◌≡◌, None as Nothing};
+ghost use Rattle.std.specs.Prelude.{◌≡◌, Bool, None as Nothing};
 ghost use Rattle.engine.specs.Refusals.{Outcome, at_index, load_told, told};
 ghost use Rattle.engine.specs.Drafts.{fitted, linked};
 ghost use Rattle.engine.specs.Edits.{first_fault, knot_fault};
@@ -28,49 +28,38 @@ fn is_rightward(a: Knot, b: Knot) -> bool
 }
 
 // b is at most 4096 right of a.
-fn is_near(a: Knot, b: Knot) -> bool
+pub(super) fn is_near(a: Knot, b: Knot) -> bool
     ensures { result ≡ near a b }
 {
     i64::from(b.x) <= i64::from(a.x) + WIDEST
 }
 
 // b is not below a.
-fn is_upward(a: Knot, b: Knot) -> bool
+pub(super) fn is_upward(a: Knot, b: Knot) -> bool
     ensures { result ≡ upward a b }
 {
     a.y <= b.y
 }
 
-// The same two tests, where there are two knots.
+// The test of a knot and its neighbours, where it has them.
+pub(super) fn fits_between<F: Fn(Knot, Knot) -> bool>(
+    test: F,
+    before: Option<Knot>,
+    k: Knot,
+    after: Option<Knot>,
+) -> bool
+    requires { F.IsAlwaysCallable test }
+    ensures { (p : Knot → Knot → Bool) → ((a b : Knot) (r : Bool) → F.post test a b r → r ≡ p a b)
+        → result ≡ fitted p before k after }
+{
+    before.is_none_or(|b| test(b, k)) && after.is_none_or(|a| test(k, a))
+}
+
+// Two knots are near enough to be neighbours, where there are two.
 pub(super) fn are_near(a: Option<Knot>, b: Option<Knot>) -> bool
     ensures { result ≡ linked near a b }
 {
-    match (a, b) {
-        (Some(a), Some(b)) => is_near(a, b),
-        _ => true,
-    }
-}
-
-fn are_upward(a: Option<Knot>, b: Option<Knot>) -> bool
-    ensures { result ≡ linked upward a b }
-{
-    match (a, b) {
-        (Some(a), Some(b)) => is_upward(a, b),
-        _ => true,
-    }
-}
-
-// The same two tests of k and its neighbours.
-pub(super) fn is_near_both(before: Option<Knot>, k: Knot, after: Option<Knot>) -> bool
-    ensures { result ≡ fitted near before k after }
-{
-    are_near(before, Some(k)) && are_near(Some(k), after)
-}
-
-pub(super) fn is_upward_both(before: Option<Knot>, k: Knot, after: Option<Knot>) -> bool
-    ensures { result ≡ fitted upward before k after }
-{
-    are_upward(before, Some(k)) && are_upward(Some(k), after)
+    a.zip(b).is_none_or(|(a, b)| is_near(a, b))
 }
 
 // The refusal of the knot at `index`.

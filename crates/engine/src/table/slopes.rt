@@ -1,116 +1,82 @@
 //! The stored slopes of a list of knots.
 
-ghost use Rattle.std.specs.Prelude.{◌≡◌, ℕ, ◌+◌, ◌-◌, ◌*◌, ◌/◌, ◌^◌, ◌<◌, ◌≤◌, true, length, pos, slice_index};
-ghost use Rattle.engine.specs.Coordinates.{furthest};
+ghost use Rattle.std.specs.Prelude.{◌≡◌, ◌*◌, ◌/◌, ◌^◌, ◌<◌, length, pos};
 ghost use Rattle.engine.specs.Fraction.{◌÷◌};
-ghost use Rattle.engine.specs.Pieces.{widest};
-ghost use Rattle.engine.specs.Knots.{curve_knots, fewest, lawful, most};
-ghost use Rattle.engine.specs.Neighbours.{Piece, piece_height, piece_width};
-ghost use Rattle.engine.specs.Tables.{inner_slope as slope_between, slope, stored};
+ghost use Rattle.engine.specs.Lists.{listed};
+ghost use Rattle.engine.specs.Neighbours.{piece_height, piece_width};
+ghost use Rattle.engine.specs.Tables.{Slopes, inner_slope as slope_between, stored, stored_at};
+ghost use Rattle.engine.specs.Tables.{mean_bottom as bottom_between, mean_top as top_between};
 
-use super::piece::{height_of, width_of};
-use crate::knot::Knot;
+use super::list::KnotList;
+use super::piece::Piece;
+use std::array;
 
 // A slope is stored as the greatest whole number not above this many times the slope.
 const SCALE: u64 = 2048;
 
 // a / b, scaled and rounded down.
 fn scaled(a: u64, b: u64) -> u64
-    requires { (0 < b) × (a < 2 ^ 53) }
+    requires some { 0 < b }
+    requires fits { a < 2 ^ 53 }
     ensures { result ≡ 2048 * a / b }
 {
     SCALE * a / b
 }
 
-// The stored slope d / h.
-fn secant(h: u64, d: u64) -> u64
-    requires { (0 < h) × (d ≤ furthest) }
-    ensures is { pos result ≡ stored (pos d ÷ h) }
-    ensures small { result ≤ 6144 * furthest }
+// The stored slope at an end knot of the end piece.
+fn end_slope(p: Piece) -> u32
+    ensures { pos result ≡ stored (pos (piece_height p.from p.to) ÷ piece_width p.from p.to) }
 {
-    scaled(d, h)
+    scaled(p.height(), p.width()) as u32
 }
 
-// The numerator and the denominator of the mean of two secants, d / h before and after.
-fn mean_top(ha: u64, da: u64, hb: u64, db: u64) -> u64
-    requires before { (ha ≤ widest) × (da ≤ furthest) }
-    requires after { (hb ≤ widest) × (db ≤ furthest) }
-    ensures { result ≡ 3 * (ha + hb) * da * db }
+// The stored slope at the knot between two pieces: 0 where either is flat.
+fn inner_slope(before: Piece, after: Piece) -> u32
+    ensures { pos result ≡ stored (slope_between (piece_width before.from before.to) (piece_height before.from before.to)
+        (piece_width after.from after.to) (piece_height after.from after.to)) }
 {
-    3 * (ha + hb) * da * db
+    if before.height() == 0 || after.height() == 0 {
+        return 0;
+    }
+    scaled(mean_top(before, after), mean_bottom(before, after)) as u32
 }
 
-fn mean_bottom(ha: u64, da: u64, hb: u64, db: u64) -> u64
-    requires before { (ha ≤ widest) × (da ≤ furthest) }
-    requires after { (hb ≤ widest) × (db ≤ furthest) }
-    ensures { result ≡ (2 * hb + ha) * ha * db + (hb + 2 * ha) * hb * da }
+// The numerator and the denominator of the mean of two secants.
+fn mean_top(before: Piece, after: Piece) -> u64
+    ensures { result ≡ top_between (piece_width before.from before.to) (piece_height before.from before.to)
+        (piece_width after.from after.to) (piece_height after.from after.to) }
 {
+    3 * (before.width() + after.width()) * before.height() * after.height()
+}
+
+fn mean_bottom(before: Piece, after: Piece) -> u64
+    ensures { result ≡ bottom_between (piece_width before.from before.to) (piece_height before.from before.to)
+        (piece_width after.from after.to) (piece_height after.from after.to) }
+{
+    let (ha, da) = (before.width(), before.height());
+    let (hb, db) = (after.width(), after.height());
     (2 * hb + ha) * ha * db + (hb + 2 * ha) * hb * da
 }
 
-// The stored slope between a piece of width ha and height da and one of width hb and height db.
-fn mean(ha: u64, da: u64, hb: u64, db: u64) -> u64
-    requires before { (0 < ha) × ((ha ≤ widest) × (da ≤ furthest)) }
-    requires after { (0 < hb) × ((hb ≤ widest) × (db ≤ furthest)) }
-    ensures is { pos result ≡ stored (slope_between ha da hb db) }
-    ensures small { result ≤ 6144 * furthest }
-{
-    if da == 0 || db == 0 {
-        return 0;
+impl KnotList {
+    // The stored slopes at its knots.
+    pub(super) fn slopes(&self) -> [u32; 96]
+        ensures { Slopes (listed self.now) result }
+    {
+        array::from_fn(|i| if i < self.len() { self.slope_at(i) } else { 0 })
     }
-    scaled(mean_top(ha, da, hb, db), mean_bottom(ha, da, hb, db))
-}
 
-// The stored slope at an end knot of the piece from p to q, which is the end piece.
-fn end_slope(p: Knot, q: Knot) -> u32
-    requires { Piece p q }
-    ensures { pos result ≡ stored (pos (piece_height p q) ÷ piece_width p q) }
-{
-    secant(width_of(p, q), height_of(p, q)) as u32
-}
-
-// The stored slope at q, between p and r.
-fn inner_slope(p: Knot, q: Knot, r: Knot) -> u32
-    requires before { Piece p q }
-    requires after { Piece q r }
-    ensures { pos result
-        ≡ stored (slope_between (piece_width p q) (piece_height p q) (piece_width q r) (piece_height q r)) }
-{
-    mean(
-        width_of(p, q),
-        height_of(p, q),
-        width_of(q, r),
-        height_of(q, r),
-    ) as u32
-}
-
-// The stored slope at knot i.
-fn slope_at(ks: &[Knot], i: usize) -> u32
-    requires some { fewest ≤ length ks.now }
-    requires ok { lawful ks.now ≡ true }
-    requires inside { i < length ks.now }
-    ensures { pos result ≡ stored (slope (curve_knots ks.now) (length ks.now - 1) i) }
-{
-    if i == 0 {
-        return end_slope(ks[0], ks[1]);
+    // The stored slope at knot i.
+    fn slope_at(&self, i: usize) -> u32
+        requires { i < length (listed self.now) }
+        ensures { pos result ≡ stored_at (listed self.now) i }
+    {
+        if i == 0 {
+            return end_slope(self.piece(0));
+        }
+        if i + 1 == self.len() {
+            return end_slope(self.piece(i - 1));
+        }
+        inner_slope(self.piece(i - 1), self.piece(i))
     }
-    if i + 1 == ks.len() {
-        return end_slope(ks[i - 1], ks[i]);
-    }
-    inner_slope(ks[i - 1], ks[i], ks[i + 1])
-}
-
-// The stored slopes at all knots.
-pub(super) fn slopes_of(ks: &[Knot]) -> [u32; 96]
-    requires some { fewest ≤ length ks.now }
-    requires few { length ks.now ≤ most }
-    requires ok { lawful ks.now ≡ true }
-    ensures { (i : ℕ) → i < length ks.now
-        → pos (slice_index result i) ≡ stored (slope (curve_knots ks.now) (length ks.now - 1) i) }
-{
-    let mut slopes = [0; 96];
-    for i in 0..ks.len() {
-        slopes[i] = slope_at(ks, i);
-    }
-    slopes
 }

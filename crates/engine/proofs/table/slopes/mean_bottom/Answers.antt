@@ -7,7 +7,7 @@ pub overflow_add-result-3 : goal.overflow_add-result-3
 overflow_add-result-3 c = record {
   fits = omega (
     arith,
-    bottom_fits c.args.ha c.args.da c.args.hb c.args.db c.requires.before.0 c.requires.before.1
-        c.requires.after.0 c.requires.after.1,
+    bottom_fits c.width-ha.result c.height-da.result c.width-hb.result c.height-db.result c.width-ha.ensures.near
+        c.height-da.ensures.low c.width-hb.ensures.near c.height-db.ensures.low,
   );
 }
