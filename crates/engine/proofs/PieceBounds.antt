@@ -3,7 +3,8 @@ use Rattle.std.proofs.Common.{◌≡◌, ℕ, zero, suc, ◌+◌, ◌-◌, ◌*�
 use native.Mathlib.Nat.{le_dest, mul-div-mul_left}
 use borrow.Author.Differences.{ints}
 use Rattle.engine.specs.Fraction.{◌÷◌, whole, roundᶠ}
-use Rattle.engine.specs.Pieces.{Knot, line_exact}
+use Rattle.engine.specs.declared.knot.Knot.{Knot}
+use Rattle.engine.specs.Pieces.{line_exact}
 use Rattle.engine.specs.Orders.{whole-≤}
 use Rattle.engine.specs.Places.{Place, place}
 use Rattle.engine.specs.Terms.{Is, Is-over}

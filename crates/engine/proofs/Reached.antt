@@ -3,7 +3,7 @@ use Rattle.std.proofs.Common.{◌≡◌, ℕ, suc, ◌<◌, ◌≤◌, true, fal
 use lib.Signed.{≤ℤ_refl, le_z}
 use borrow.Author.Differences.{ints}
 use Rattle.engine.specs.Fraction.{Fraction, whole, ◌≈ᶠ◌, leᶠ, roundᶠ}
-use Rattle.engine.specs.Pieces.{Knot}
+use Rattle.engine.specs.declared.knot.Knot.{Knot}
 use Rattle.engine.specs.Orders.{≤ᶠ_refl, ≈ᶠ_same, leᶠ_false, leᶠ_holds, leZ_holds}
 use Rattle.engine.specs.Piecewise.{piecewise_from, piecewise_before}
 use Rattle.engine.specs.Places.{Lawful, LawfulTable, x_strict}

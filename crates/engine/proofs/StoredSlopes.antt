@@ -9,7 +9,7 @@ use Rattle.engine.specs.Fraction.{whole, ◌÷◌, ◌*ᶠ◌}
 use Rattle.engine.specs.Coordinates.{Coordinate, lowest, highest}
 use Rattle.engine.specs.Pieces.{width, height}
 use Rattle.engine.specs.declared.knot.Knot.{Knot}
-use Rattle.engine.specs.Knots.{curve_knots, knot_at}
+use Rattle.engine.specs.Knots.{knot_at}
 use Rattle.engine.specs.Neighbours.{Neighbours, piece_width, piece_height}
 use borrow.Author.Differences.{ints}
 use Rattle.engine.specs.Tables.{stored, stored_at, secant, inner_slope, end_slope, slope}

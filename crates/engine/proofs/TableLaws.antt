@@ -4,8 +4,8 @@ use lib.Signed.{le_z}
 use Rattle.engine.specs.Coordinates.{Coordinate, Within, lowest, highest}
 use Rattle.engine.specs.Curves.{Rules, meaning}
 use Rattle.engine.specs.Fraction.{Fraction, whole, ◌*ᶠ◌, ◌≤ᶠ◌, ◌≈ᶠ◌, leᶠ}
-use Rattle.engine.specs.Pieces.{Knot, width, height, line_exact}
-use Rattle.engine.specs.declared.knot.Knot as knot
+use Rattle.engine.specs.declared.knot.Knot.{Knot}
+use Rattle.engine.specs.Pieces.{width, height, line_exact}
 use Rattle.engine.specs.Orders.{by_test, ≤ᶠ_trans, ≈ᶠ_trans, ≈ᶠ_same, whole-≤, leᶠ_true, leᶠ_holds}
 use Rattle.engine.specs.Orders.{≤ℤ_trans, ≤ℤ_antisym, leZ_true, leZ_holds}
 use Rattle.engine.specs.Terms.{Is-whole, Is-*, Is-≤}
@@ -13,7 +13,7 @@ use Rattle.engine.specs.Sums.{whole_within}
 use Rattle.engine.specs.Places.{LawfulTable, wide, x_strict}
 use Rattle.engine.specs.Joins.{joined_on}
 use Rattle.engine.specs.Lines.{line_on}
-use Rattle.engine.specs.Knots.{fewest, curve_knots, lawful}
+use Rattle.engine.specs.Knots.{fewest, knot_at, lawful}
 use Rattle.engine.specs.Tables.{secant, exact_from, table_value, table_exact, table_rise, table_radius}
 use Rattle.engine.specs.Theorems.{TableLaw, StepLaw, LineLaw, CubicLaw, TableLaws}
 use Rattle.engine.specs.declared.kind.Kind.{Kind}
@@ -129,9 +129,9 @@ module _ (k : ℕ → Knot) (top : ℕ) (law : LawfulTable k top) where
 
 -- ---- the laws of a list
 
-module _ (ks : List knot.Knot) (some : fewest ≤ length ks) (ok : lawful ks ≡ true) where
+module _ (ks : List Knot) (some : fewest ≤ length ks) (ok : lawful ks ≡ true) where
   abbrev k : ℕ → Knot
-  k = curve_knots ks
+  k = knot_at ks
 
   abbrev top : ℕ
   top = length ks - 1

@@ -8,12 +8,11 @@ use Rattle.engine.specs.Coordinates.{furthest}
 use Rattle.engine.specs.Fraction.{Fraction, whole, roundᶠ}
 use Rattle.engine.specs.Pieces.{width, height}
 use Rattle.engine.specs.Places.{LawfulTable}
-use Rattle.engine.specs.Pieces as curve
 use Rattle.engine.specs.declared.knot.Knot.{Knot}
 use Rattle.engine.specs.Lines.{line_piece}
 use Rattle.engine.specs.Orders.{leZ_true, leZ_false}
 use Rattle.engine.specs.Drafts.{Reached}
-use Rattle.engine.specs.Knots.{fewest, knot_at, curve_knot, curve_knots, lawful}
+use Rattle.engine.specs.Knots.{fewest, knot_at, lawful}
 use Rattle.engine.specs.Neighbours.{Gentle, Neighbours, piece_value, piece_rise}
 use Rattle.engine.specs.Tables.{Slopes, slope, stored, value_from, greatest, table_value, table_rise, secant}
 use Rattle.engine.specs.declared.kind.Kind.{Kind}
@@ -36,27 +35,23 @@ gentle_number {h = h} {D} σ c e =
     number : {a b : ℕ} → pos a ≡ pos b → a ≡ b
     number p = omega (arith, ints)
 
--- the knots of a table as a curve's
-abbrev as_curve : (ℕ → Knot) → ℕ → curve.Knot
-as_curve k i = curve_knot (k i)
-
-module _ (k : ℕ → Knot) (top : ℕ) (law : LawfulTable (as_curve k) top) where
+module _ (k : ℕ → Knot) (top : ℕ) (law : LawfulTable k top) where
   -- the value from knot i on is that of its piece
   piece_is : (kind : Kind) (i : ℕ) (x : ℤ) → i < top
-      → value_from kind (as_curve k) top i x
-      ≡ piece_value kind (k i) (k (suc i)) (stored (slope (as_curve k) top i)) (stored (slope (as_curve k) top (suc i))) x
+      → value_from kind k top i x
+      ≡ piece_value kind (k i) (k (suc i)) (stored (slope k top i)) (stored (slope k top (suc i))) x
   unfolding value_from width height
   piece_is Step i x l = refl
-  piece_is Line i x l = ap roundᶠ (line_piece (as_curve k) top law.knots i (whole x) l)
+  piece_is Line i x l = ap roundᶠ (line_piece k top law.knots i (whole x) l)
   piece_is Cubic i x l = let e : eqb i top ≡ false = ne_eqb i top (λ n. omega arith) in rw e refl
 
-  start_gentle : (i c : ℕ) → i < top → pos c ≡ stored (slope (as_curve k) top i) → Gentle (k i) (k (suc i)) c
+  start_gentle : (i c : ℕ) → i < top → pos c ≡ stored (slope k top i) → Gentle (k i) (k (suc i)) c
   unfolding width height
-  start_gentle i c l e = gentle_number (gentle_piece (as_curve k) top law i l).start c e
+  start_gentle i c l e = gentle_number (gentle_piece k top law i l).start c e
 
-  end_gentle : (i c : ℕ) → i < top → pos c ≡ stored (slope (as_curve k) top (suc i)) → Gentle (k i) (k (suc i)) c
+  end_gentle : (i c : ℕ) → i < top → pos c ≡ stored (slope k top (suc i)) → Gentle (k i) (k (suc i)) c
   unfolding width height
-  end_gentle i c l e = gentle_number (gentle_piece (as_curve k) top law i l).end c e
+  end_gentle i c l e = gentle_number (gentle_piece k top law i l).end c e
 
 -- ---- n knots of a list are reached
 
@@ -67,21 +62,21 @@ module _ (ks : List Knot) (some : fewest ≤ length ks) (ok : lawful ks ≡ true
   abbrev top : ℕ
   top = length ks - 1
 
-  law : LawfulTable (curve_knots ks) top
+  law : LawfulTable (knot_at ks) top
   law = lawful_list ks ok some
 
   -- none
-  pub none_reached : (kind : Kind) (n : ℕ) → Reached ks x n → n ≡ 0 → (k 0).y ≡ table_value kind (curve_knots ks) top x
+  pub none_reached : (kind : Kind) (n : ℕ) → Reached ks x n → n ≡ 0 → (k 0).y ≡ table_value kind (knot_at ks) top x
   none_reached kind n r e =
-      sym (value_first kind (curve_knots ks) top law.knots x
+      sym (value_first kind (knot_at ks) top law.knots x
       (subst (λ i. le_z (k i).x x ≡ false) e (r.short (omega arith))))
 
   -- all
-  pub all_reached : (kind : Kind) (n : ℕ) → Reached ks x n → n ≡ length ks → (k (n - 1)).y ≡ table_value kind (curve_knots ks) top x
+  pub all_reached : (kind : Kind) (n : ℕ) → Reached ks x n → n ≡ length ks → (k (n - 1)).y ≡ table_value kind (knot_at ks) top x
   all_reached kind n r e =
       let last : n - 1 ≡ top = ap (λ m. m - 1) e in
       ap (λ i. (k i).y) last
-      ∙ sym (value_last kind (curve_knots ks) top law x (subst (λ i. le_z (k i).x x ≡ true) last (r.from (omega arith))))
+      ∙ sym (value_last kind (knot_at ks) top law x (subst (λ i. le_z (k i).x x ≡ true) last (r.from (omega arith))))
 
   -- some: x lies in the piece before knot n
   module _ (n : ℕ) (r : Reached ks x n) (begun : 0 < n) (short : n < length ks) where
@@ -113,12 +108,12 @@ module _ (ks : List Knot) (some : fewest ≤ length ks) (ok : lawful ks ≡ true
 
       pub reached_value : (kind : Kind)
           → piece_value kind (k (n - 1)) (k n) (pos (get_or slopes (n - 1) 0)) (pos (get_or slopes n 0)) x
-          ≡ table_value kind (curve_knots ks) top x
+          ≡ table_value kind (knot_at ks) top x
       reached_value kind =
           ap₂ (λ M M'. piece_value kind (k (n - 1)) (k n) M M' x) (steep (n - 1) (omega arith)) (steep n short)
-          ∙ sym (value_reached kind (curve_knots ks) top law.knots (n - 1) x (omega arith) (r.from begun) beyond
-          ∙ subst (λ i. value_from kind (curve_knots ks) top (n - 1) x
-          ≡ piece_value kind (k (n - 1)) (k i) (stored (slope (curve_knots ks) top (n - 1))) (stored (slope (curve_knots ks) top i)) x) next
+          ∙ sym (value_reached kind (knot_at ks) top law.knots (n - 1) x (omega arith) (r.from begun) beyond
+          ∙ subst (λ i. value_from kind (knot_at ks) top (n - 1) x
+          ≡ piece_value kind (k (n - 1)) (k i) (stored (slope (knot_at ks) top (n - 1))) (stored (slope (knot_at ks) top i)) x) next
           (piece_is k top law kind (n - 1) x inner))
         where
           beyond : n - 1 < top → le_z (k (suc (n - 1))).x x ≡ false
@@ -146,13 +141,13 @@ steepest_turn kind k i a s p q inv start end up =
 held : (a : ℕ) → a ≤ furthest → min a furthest ≡ a
 held a h = omega arith
 
-steepest_is : (kind : Kind) (k : ℕ → Knot) (top : ℕ) → LawfulTable (as_curve k) top
-    → min (steepest kind k top) furthest ≡ table_rise kind (as_curve k) top
+steepest_is : (kind : Kind) (k : ℕ → Knot) (top : ℕ) → LawfulTable k top
+    → min (steepest kind k top) furthest ≡ table_rise kind k top
 unfolding steepest table_rise width height secant
-steepest_is Step k n lawful = held _ (kind_rules Step (as_curve k) n lawful).rise_fits
-steepest_is Line k n lawful = held _ (kind_rules Line (as_curve k) n lawful).rise_fits
+steepest_is Step k n lawful = held _ (kind_rules Step k n lawful).rise_fits
+steepest_is Line k n lawful = held _ (kind_rules Line k n lawful).rise_fits
 steepest_is Cubic k n lawful = refl
 
 pub steepest_held : (kind : Kind) (ks : List Knot) → fewest ≤ length ks → lawful ks ≡ true
-    → min (steepest kind (knot_at ks) (length ks - 1)) furthest ≡ table_rise kind (curve_knots ks) (length ks - 1)
+    → min (steepest kind (knot_at ks) (length ks - 1)) furthest ≡ table_rise kind (knot_at ks) (length ks - 1)
 steepest_held kind ks some ok = steepest_is kind (knot_at ks) (length ks - 1) (lawful_list ks ok some)

@@ -5,7 +5,8 @@ use Rattle.std.proofs.Math.Nat.{mul-le-mul_right, le_dest}
 use Rattle.std.proofs.Math.IntN.{+ℤ_idr}
 use borrow.Author.Differences.{ints, up, down}
 use Rattle.engine.specs.Fraction.{Fraction, den, whole, ◌+ᶠ◌, ◌-ᶠ◌, ◌*ᶠ◌, ◌/ᶠ◌, ◌≤ᶠ◌, ◌≈ᶠ◌}
-use Rattle.engine.specs.Pieces.{Knot, widest}
+use Rattle.engine.specs.declared.knot.Knot.{Knot}
+use Rattle.engine.specs.Pieces.{widest}
 use Rattle.engine.specs.Orders.{≤ᶠ_refl}
 use Rattle.engine.specs.Terms.{Is, Is-whole, Is-as, Is-*, Is-/, Is-+, Is--, Is-≤, val, Val-≤_out}
 use Rattle.engine.specs.Sums.{+ᶠ_mono, shift_whole}

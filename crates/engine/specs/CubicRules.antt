@@ -6,7 +6,8 @@ use borrow.Author.Tests.{eq-eqb, ne_eqb}
 use Rattle.engine.specs.Coordinates.{Within}
 use Rattle.engine.specs.Curves.{Rules, meaning}
 use Rattle.engine.specs.Fraction.{Fraction, ◌÷◌, whole, ◌+ᶠ◌, ◌≤ᶠ◌, ◌≈ᶠ◌}
-use Rattle.engine.specs.Pieces.{Knot, width, height}
+use Rattle.engine.specs.declared.knot.Knot.{Knot}
+use Rattle.engine.specs.Pieces.{width, height}
 use Rattle.engine.specs.Orders.{≤ᶠ_trans, ≤ℤ_trans, whole-≤}
 use Rattle.engine.specs.Terms.{Is-over}
 use Rattle.engine.specs.Sums.{whole_within}

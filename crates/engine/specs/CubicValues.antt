@@ -6,7 +6,8 @@ use Rattle.std.proofs.Math.Nat.{le_dest}
 use Rattle.std.proofs.Math.IntN.{+ℤ_idr}
 use borrow.Author.Differences.{ints, up, down}
 use Rattle.engine.specs.Fraction.{Fraction, ◌÷◌, whole, ◌+ᶠ◌, roundᶠ}
-use Rattle.engine.specs.Pieces.{Knot, widest}
+use Rattle.engine.specs.declared.knot.Knot.{Knot}
+use Rattle.engine.specs.Pieces.{widest}
 use Rattle.engine.specs.Terms.{Val, Is-Val, Val-shift, Val-whole, Val-≤}
 use Rattle.engine.specs.Sums.{Val-add}
 use Rattle.engine.specs.Places.{Place}

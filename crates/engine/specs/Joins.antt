@@ -4,7 +4,8 @@ use Rattle.std.proofs.Common.{sym, subst, subst₂, ◌∙◌, inl, inr, eq-or-l
 use Rattle.std.proofs.lemmas.Bool.{both_ways}
 use Rattle.engine.specs.Fraction.{Fraction, whole, ◌+ᶠ◌, ◌≤ᶠ◌, ◌≈ᶠ◌, leᶠ}
 use Rattle.engine.specs.Coordinates.{Within}
-use Rattle.engine.specs.Pieces.{Knot, piecewise}
+use Rattle.engine.specs.declared.knot.Knot.{Knot}
+use Rattle.engine.specs.Pieces.{piecewise}
 use Rattle.engine.specs.Orders.{by_test, ≤ᶠ_refl, ≤ᶠ_trans, ≈ᶠ_same, leᶠ_true, leᶠ_false, leᶠ_holds}
 use Rattle.engine.specs.Lags.{lag, lag_anti, lag_mono, rise_out}
 use Rattle.engine.specs.Piecewise.{Pieces, piecewise_mono, piecewise_both, piecewise_map}

@@ -2,7 +2,6 @@
 use Rattle.std.specs.Prelude.{ℕ, Bool, true, false, cond, not, ◌&&◌, List, [], ◌∷◌, ℤ, pos, ◌+ℤ◌, neg_ℤ, int_le, int_lt, slice_index_or}
 use Rattle.engine.specs.Coordinates.{coordinate, lowest, highest}
 use Rattle.engine.specs.Pieces.{widest}
-use Rattle.engine.specs.Pieces as curve
 use Rattle.engine.specs.declared.knot.Knot.{Knot}
 
 -- a table has at least 2 and at most 96 knots
@@ -22,13 +21,6 @@ empty = knot (pos 0) (pos 0)
 
 abbrev pub knot_at : List Knot → ℕ → Knot
 knot_at ks i = slice_index_or ks i empty
-
--- a knot of a table as one of a curve; and the knots of a list, by index
-abbrev pub curve_knot : Knot → curve.Knot
-curve_knot k = record { x = k.x; y = k.y }
-
-abbrev pub curve_knots : List Knot → ℕ → curve.Knot
-curve_knots ks i = curve_knot (knot_at ks i)
 
 -- ---- the rules of a table
 

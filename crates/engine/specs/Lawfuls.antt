@@ -7,7 +7,7 @@ use Rattle.engine.specs.Places.{LawfulTable}
 use Rattle.engine.specs.Coordinates.{Coordinate, coordinate, lowest}
 use Rattle.engine.specs.declared.knot.Knot.{Knot}
 use Rattle.engine.specs.Orders.{leZ_true}
-use Rattle.engine.specs.Knots.{fewest, knot_at, curve_knots, fits, each, neighbours, rightward, near, upward, lawful}
+use Rattle.engine.specs.Knots.{fewest, knot_at, fits, each, neighbours, rightward, near, upward, lawful}
 use Rattle.engine.specs.Neighbours.{Neighbours}
 
 -- ---- what a test says of its numbers
@@ -53,7 +53,7 @@ module _ (ks : List Knot) (ok : lawful ks ≡ true) where
       let p = and_parts (coordinate (knot_at ks i).x) _ (each_at fits ks parts.0 i l) in
       (is_coordinate_lem _ p.0, is_coordinate_lem _ p.1)
 
-  pub lawful_list : fewest ≤ length ks → LawfulTable (curve_knots ks) (length ks - 1)
+  pub lawful_list : fewest ≤ length ks → LawfulTable (knot_at ks) (length ks - 1)
   lawful_list some = record {
     knots = record {
       x_fits = λ i l. (fits_at i (omega arith)).0;

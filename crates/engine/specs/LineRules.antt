@@ -6,7 +6,8 @@ use Rattle.std.proofs.Common.{mul-le-mul_left, le_trans, arith}
 use Rattle.engine.specs.Coordinates.{Coordinate, Within, lowest, highest, furthest}
 use Rattle.engine.specs.Curves.{Rules, meaning}
 use Rattle.engine.specs.Fraction.{Fraction, whole, ◌+ᶠ◌, ◌≤ᶠ◌, leᶠ, roundᶠ}
-use Rattle.engine.specs.Pieces.{Knot, width, height, line_exact, line_from, line_through}
+use Rattle.engine.specs.declared.knot.Knot.{Knot}
+use Rattle.engine.specs.Pieces.{width, height, line_exact, line_from, line_through}
 use Rattle.engine.specs.Orders.{whole-≤, same_test}
 use Rattle.engine.specs.Terms.{Is-as}
 use Rattle.engine.specs.Sums.{whole_within}

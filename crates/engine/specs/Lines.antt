@@ -7,7 +7,8 @@ use Rattle.std.proofs.Math.IntN.{+ℤ_idr}
 use borrow.Author.Differences.{ints, up, down}
 use borrow.Author.Tests.{eq-eqb, ne_eqb}
 use Rattle.engine.specs.Fraction.{Fraction, den, whole, ◌-ᶠ◌, ◌*ᶠ◌, ◌/ᶠ◌, ◌≤ᶠ◌, ◌≈ᶠ◌, leᶠ}
-use Rattle.engine.specs.Pieces.{Knot, width, height, piecewise, line_exact, line_from, line_through}
+use Rattle.engine.specs.declared.knot.Knot.{Knot}
+use Rattle.engine.specs.Pieces.{width, height, piecewise, line_exact, line_from, line_through}
 use Rattle.engine.specs.Orders.{≤ᶠ_refl, ≤ᶠ_trans, whole-≤}
 use Rattle.engine.specs.Terms.{Is, Is-whole, Is-*, Is-/, Is-≤, val, Val-≤_out}
 use Rattle.engine.specs.Sums.{+ᶠ_mono, shift_whole}

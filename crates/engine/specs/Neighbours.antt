@@ -4,7 +4,6 @@ use Rattle.engine.specs.Coordinates.{Coordinate}
 use Rattle.engine.specs.Fraction.{whole, ◌÷◌, roundᶠ}
 use Rattle.engine.specs.Pieces.{widest, line_exact}
 use Rattle.engine.specs.declared.knot.Knot.{Knot}
-use Rattle.engine.specs.Knots.{curve_knot}
 use Rattle.engine.specs.Tables.{cubic_value, round_up}
 use Rattle.engine.specs.declared.kind.Kind.{Kind}
 use Rattle.engine.specs.declared.kind.Kind.TheVariants.{Step, Line, Cubic}
@@ -29,8 +28,8 @@ piece_height p q = unsigned_abs (q.y -ℤ p.y)
 -- its value, with the stored slopes M and M' at its ends
 abbrev pub piece_value : Kind → (p q : Knot) (M M' : ℤ) → ℤ → ℤ
 piece_value Step p q M M' x = p.y
-piece_value Line p q M M' x = roundᶠ (line_exact (curve_knot p) (piece_width p q) (piece_height p q) (whole x))
-piece_value Cubic p q M M' x = cubic_value (curve_knot p) (piece_width p q) (piece_height p q) M M' x
+piece_value Line p q M M' x = roundᶠ (line_exact p (piece_width p q) (piece_height p q) (whole x))
+piece_value Cubic p q M M' x = cubic_value p (piece_width p q) (piece_height p q) M M' x
 
 -- its rise, before it is held
 abbrev pub piece_rise : Kind → (p q : Knot) → ℕ

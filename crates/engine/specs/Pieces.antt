@@ -1,11 +1,7 @@
 -- Curves made of pieces between knots. The knots are given by index: `k i` for i from 0 to `top`.
 use Rattle.std.specs.Prelude.{ℕ, zero, suc, Bool, cond, ℤ, pos, ◌-ℤ◌, ◌==◌, unsigned_abs}
 use Rattle.engine.specs.Fraction.{Fraction, whole, ◌+ᶠ◌, ◌-ᶠ◌, ◌*ᶠ◌, ◌/ᶠ◌, leᶠ}
-
--- at x the curve has the value y
-pub record Knot : Type 0 where
-  pub x : ℤ
-  pub y : ℤ
+use Rattle.engine.specs.declared.knot.Knot.{Knot}
 
 -- neighbouring knots are at most 4096 apart
 abbrev pub widest : ℕ

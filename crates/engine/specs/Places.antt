@@ -5,7 +5,8 @@ use Rattle.std.proofs.Math.Nat.{le_dest}
 use borrow.Author.Differences.{ints, up, down}
 use Rattle.engine.specs.Coordinates.{Coordinate}
 use Rattle.engine.specs.Fraction.{Fraction, den, whole, ◌+ᶠ◌, ◌-ᶠ◌, ◌≤ᶠ◌, leᶠ}
-use Rattle.engine.specs.Pieces.{Knot, widest, width, height}
+use Rattle.engine.specs.declared.knot.Knot.{Knot}
+use Rattle.engine.specs.Pieces.{widest, width, height}
 use Rattle.engine.specs.Orders.{by_test, ≤ᶠ_out, ≤ᶠ_refl, ≤ᶠ_trans, whole-≤, whole-≤_out, leᶠ_true}
 use Rattle.engine.specs.Terms.{Is, Is-Val, Val, Val-shift, Val-≤, shifted}
 use Rattle.engine.specs.Lags.{lag, Val-lag}

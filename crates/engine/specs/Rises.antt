@@ -5,7 +5,8 @@ use Rattle.std.proofs.Common.{mul-le-mul_right, le_trans, arith}
 use Rattle.std.proofs.lemmas.Int.{ints}
 use Rattle.engine.specs.Coordinates.{furthest}
 use Rattle.engine.specs.Fraction.{Fraction}
-use Rattle.engine.specs.Pieces.{Knot, height}
+use Rattle.engine.specs.declared.knot.Knot.{Knot}
+use Rattle.engine.specs.Pieces.{height}
 use Rattle.engine.specs.Places.{Lawful, y_is}
 use Rattle.engine.specs.Terms.{Is}
 use Rattle.engine.specs.Tables.{greatest, round_up}

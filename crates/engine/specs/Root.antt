@@ -3,7 +3,8 @@ use Rattle.std.specs.Prelude.{◌≡◌, ℕ, zero, suc, ◌*◌, ◌<◌, ◌�
 use Rattle.engine.specs.Fraction.{Fraction}
 use Rattle.engine.specs.Coordinates.{hold}
 use Rattle.engine.specs.Curves.{Meaning, meaning}
-use Rattle.engine.specs.Pieces.{Knot, line_through}
+use Rattle.engine.specs.declared.knot.Knot.{Knot}
+use Rattle.engine.specs.Pieces.{line_through}
 
 -- s is the greatest whole number whose square is at most n
 pub record GreatestRoot (n s : ℕ) : Type 0 where

@@ -5,7 +5,8 @@ use native.Mathlib.Omega.{arith}
 use borrow.Author.Tests.{eqb-true, eqb-false}
 use Rattle.std.proofs.lemmas.Bool.{or_parts}
 use Rattle.engine.specs.Fraction.{whole}
-use Rattle.engine.specs.Pieces.{Knot, width, height}
+use Rattle.engine.specs.declared.knot.Knot.{Knot}
+use Rattle.engine.specs.Pieces.{width, height}
 use Rattle.engine.specs.Orders.{by_test}
 use Rattle.engine.specs.Terms.{Is, Is-over, Is-whole}
 use Rattle.engine.specs.Places.{Lawful, LawfulTable, wide, narrow}

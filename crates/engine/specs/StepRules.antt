@@ -8,7 +8,8 @@ use borrow.Author.Differences.{ints, up, down}
 use Rattle.engine.specs.Coordinates.{Coordinate, Within, furthest}
 use Rattle.engine.specs.Curves.{Rules, meaning}
 use Rattle.engine.specs.Fraction.{Fraction, whole, ◌+ᶠ◌, ◌≤ᶠ◌, leᶠ, floorᶠ}
-use Rattle.engine.specs.Pieces.{Knot, height, piecewise}
+use Rattle.engine.specs.declared.knot.Knot.{Knot}
+use Rattle.engine.specs.Pieces.{height, piecewise}
 use Rattle.engine.specs.Orders.{≤ᶠ_trans, ≤ℤ_trans, whole-≤, leᶠ_true, leᶠ_false, same_test}
 use Rattle.engine.specs.Sums.{+ᶠ_up, whole_sum, whole_within}
 use Rattle.engine.specs.Floors.{floor_above, floor_below, floor_mono, floor_near}

@@ -3,10 +3,9 @@ use Rattle.std.specs.Prelude.{◌≡◌, ℕ, ◌-◌, ◌≤◌, true, List, le
 use Rattle.std.proofs.Common.{arith}
 use Rattle.std.proofs.lemmas.List.{length-take-le}
 use Rattle.engine.specs.Curves.{Rules, meaning}
-use Rattle.engine.specs.Pieces.{Knot}
+use Rattle.engine.specs.declared.knot.Knot.{Knot}
 use Rattle.engine.specs.Places.{LawfulTable}
-use Rattle.engine.specs.declared.knot.Knot as knot
-use Rattle.engine.specs.Knots.{fewest, most, curve_knots, lawful}
+use Rattle.engine.specs.Knots.{fewest, most, knot_at, lawful}
 use Rattle.engine.specs.Tables.{table_value, table_exact, table_rise, table_radius, table_curve}
 use Rattle.engine.specs.declared.kind.Kind.{Kind}
 use Rattle.engine.specs.declared.kind.Kind.TheVariants.{Step, Line, Cubic}
@@ -21,11 +20,11 @@ kind_rules Step k top law = step_rules k top law.knots
 kind_rules Line k top law = line_rules k top law.knots
 kind_rules Cubic k top law = cubic_rules k top law
 
-pub table_rules : (kind : Kind) (ks : List knot.Knot) → fewest ≤ length ks → lawful ks ≡ true → Rules (table_curve kind ks)
-table_rules kind ks some ok = kind_rules kind (curve_knots ks) (length ks - 1) (lawful_list ks ok some)
+pub table_rules : (kind : Kind) (ks : List Knot) → fewest ≤ length ks → lawful ks ≡ true → Rules (table_curve kind ks)
+table_rules kind ks some ok = kind_rules kind (knot_at ks) (length ks - 1) (lawful_list ks ok some)
 
 -- the same of the first count knots of an array
-pub array_rules : (kind : Kind) (knots : List knot.Knot) (count : ℕ) → length knots ≡ most → fewest ≤ count → count ≤ most
+pub array_rules : (kind : Kind) (knots : List Knot) (count : ℕ) → length knots ≡ most → fewest ≤ count → count ≤ most
     → lawful (take count knots) ≡ true → Rules (table_curve kind (take count knots))
 array_rules kind knots count long some few ok =
     let size = length-take-le count knots (omega arith) in table_rules kind (take count knots) (omega arith) ok

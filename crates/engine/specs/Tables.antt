@@ -5,9 +5,9 @@ use Rattle.std.specs.Prelude.{◌≡◌, ℕ, zero, suc, ◌+◌, ◌-◌, ◌*�
 use Rattle.engine.specs.Coordinates.{furthest}
 use Rattle.engine.specs.Curves.{Meaning, meaning}
 use Rattle.engine.specs.Fraction.{Fraction, whole, ◌÷◌, ◌+ᶠ◌, ◌-ᶠ◌, ◌*ᶠ◌, ◌/ᶠ◌, leᶠ, floorᶠ, ceilᶠ, roundᶠ}
-use Rattle.engine.specs.Pieces.{Knot, width, height, piecewise, line_from}
-use Rattle.engine.specs.declared.knot.Knot as knot
-use Rattle.engine.specs.Knots.{curve_knots}
+use Rattle.engine.specs.declared.knot.Knot.{Knot}
+use Rattle.engine.specs.Pieces.{width, height, piecewise, line_from}
+use Rattle.engine.specs.Knots.{knot_at}
 use Rattle.engine.specs.declared.kind.Kind.{Kind}
 use Rattle.engine.specs.declared.kind.Kind.TheVariants.{Step, Line, Cubic}
 
@@ -45,10 +45,10 @@ abbrev pub stored : Fraction → ℤ
 stored m = floorᶠ (whole (pos 2048) *ᶠ m)
 
 -- M at knot i of a list, and such slopes for each knot
-abbrev pub stored_at : List knot.Knot → ℕ → ℤ
-stored_at ks i = stored (slope (curve_knots ks) (length ks - 1) i)
+abbrev pub stored_at : List Knot → ℕ → ℤ
+stored_at ks i = stored (slope (knot_at ks) (length ks - 1) i)
 
-abbrev pub Slopes : List knot.Knot → List ℕ → Type 0
+abbrev pub Slopes : List Knot → List ℕ → Type 0
 Slopes ks slopes = (i : ℕ) → i < length ks → pos (slice_index slopes i) ≡ stored_at ks i
 
 -- ---- cubic pieces, from the knot s
@@ -127,9 +127,9 @@ table_radius Cubic = 1
 
 -- ---- the table of a kind through a list of knots
 
-abbrev pub table_curve : Kind → List knot.Knot → Meaning
+abbrev pub table_curve : Kind → List Knot → Meaning
 table_curve kind ks =
-    let k : ℕ → Knot = curve_knots ks in
+    let k : ℕ → Knot = knot_at ks in
     let top : ℕ = length ks - 1 in
     meaning (table_value kind k top) (table_exact kind k top) (table_rise kind k top) (table_radius kind)
 

@@ -7,7 +7,7 @@ use Rattle.engine.specs.Curves.{Meaning, Rules, bare, chain, offset, clamp}
 use Rattle.engine.specs.Pieces.{width, height, line_exact}
 use Rattle.engine.specs.Root.{root_entry, root_knot, root_value, root_exact, root_curve, GreatestRoot}
 use Rattle.engine.specs.declared.knot.Knot.{Knot}
-use Rattle.engine.specs.Knots.{fewest, knot, knot_at, curve_knots, lawful}
+use Rattle.engine.specs.Knots.{fewest, knot, knot_at, lawful}
 use Rattle.engine.specs.Tables.{secant, slope, stored, cubic_exact, cubic_value, table_curve}
 use Rattle.engine.specs.declared.kind.Kind.{Kind}
 use Rattle.engine.specs.declared.kind.Kind.TheVariants.{Step, Line, Cubic}
@@ -89,12 +89,12 @@ pub record StepLaw (ks : List Knot) : Type 0 where
 pub record LineLaw (ks : List Knot) : Type 0 where
   pub exact_on : (i : ℕ) (q : Fraction) → suc i < length ks → whole (knot_at ks i).x ≤ᶠ q
       → q ≤ᶠ whole (knot_at ks (suc i)).x
-      → (table_curve Line ks).E q ≈ᶠ line_exact (curve_knots ks i) (width (curve_knots ks) i) (height (curve_knots ks) i) q
+      → (table_curve Line ks).E q ≈ᶠ line_exact (knot_at ks i) (width (knot_at ks) i) (height (knot_at ks) i) q
   pub value_is : (x : ℤ) → (table_curve Line ks).V x ≡ roundᶠ ((table_curve Line ks).E (whole x))
 
 -- m at knot i
 abbrev pub slope_of : List Knot → ℕ → Fraction
-slope_of ks i = slope (curve_knots ks) (length ks - 1) i
+slope_of ks i = slope (knot_at ks) (length ks - 1) i
 
 -- cubics: the Hermite piece with the slopes at its knots, and its value with the stored slopes; no slope is more than
 -- three secants of the piece before it or after it
@@ -102,14 +102,14 @@ pub record CubicLaw (ks : List Knot) : Type 0 where
   pub exact_on : (i : ℕ) (q : Fraction) → suc i < length ks → whole (knot_at ks i).x ≤ᶠ q
       → q ≤ᶠ whole (knot_at ks (suc i)).x
       → (table_curve Cubic ks).E q
-      ≈ᶠ cubic_exact (curve_knots ks i) (width (curve_knots ks) i) (height (curve_knots ks) i) (slope_of ks i)
+      ≈ᶠ cubic_exact (knot_at ks i) (width (knot_at ks) i) (height (knot_at ks) i) (slope_of ks i)
       (slope_of ks (suc i)) q
   pub value_on : (i : ℕ) (x : ℤ) → suc i < length ks → (knot_at ks i).x ≤ℤ x → x ≤ℤ (knot_at ks (suc i)).x
       → (table_curve Cubic ks).V x
-      ≡ cubic_value (curve_knots ks i) (width (curve_knots ks) i) (height (curve_knots ks) i) (stored (slope_of ks i))
+      ≡ cubic_value (knot_at ks i) (width (knot_at ks) i) (height (knot_at ks) i) (stored (slope_of ks i))
       (stored (slope_of ks (suc i))) x
-  pub gentle_start : (i : ℕ) → suc i < length ks → slope_of ks i ≤ᶠ whole (pos 3) *ᶠ secant (curve_knots ks) i
-  pub gentle_end : (i : ℕ) → suc i < length ks → slope_of ks (suc i) ≤ᶠ whole (pos 3) *ᶠ secant (curve_knots ks) i
+  pub gentle_start : (i : ℕ) → suc i < length ks → slope_of ks i ≤ᶠ whole (pos 3) *ᶠ secant (knot_at ks) i
+  pub gentle_end : (i : ℕ) → suc i < length ks → slope_of ks (suc i) ≤ᶠ whole (pos 3) *ᶠ secant (knot_at ks) i
 
 -- All of it, of every list that a table can have; and such a table is a lawful curve.
 pub record TableLaws : Type 0 where

@@ -4,7 +4,8 @@ use Rattle.std.proofs.Common.{sym, subst, subst₂, inl, inr, eq-or-lt_of_le, ar
 use Rattle.std.specs.Int.Signed.{≤ℤ_refl}
 use Rattle.engine.specs.Fraction.{Fraction, whole, ◌+ᶠ◌, ◌≤ᶠ◌, leᶠ}
 use Rattle.engine.specs.Coordinates.{Coordinate}
-use Rattle.engine.specs.Pieces.{Knot, piecewise}
+use Rattle.engine.specs.declared.knot.Knot.{Knot}
+use Rattle.engine.specs.Pieces.{piecewise}
 use Rattle.engine.specs.Places.{Lawful}
 use Rattle.engine.specs.Orders.{≤ℤ_trans, leZ_true, leZ_false, leZ_holds, same_test}
 use Rattle.engine.specs.Sums.{+ᶠ_up}

@@ -1,6 +1,5 @@
 -- The products fit 64 bits by bounds on their factors.
 use Rattle.std.proofs.Common.{◌*◌, ◌≤◌, pos, ◌+ℤ◌, refl, sym, ap, ◌∙◌, subst, subst₂, arith}
-use Rattle.engine.specs.Knots.{curve_knot}
 use Rattle.engine.proofs.PieceBounds.{Gauged, height_gain, slope_gain, slope_loss, cube_small, cube_some, loss_covered}
 use Rattle.engine.proofs.PieceBounds.{climb_is, climb_small, cubic_of}
 use Rattle.engine.proofs.table.piece.Piece.cubic_climb.Goals as goal
@@ -48,7 +47,7 @@ returns c =
     let d = c.height-d.result in
     record {
       is = rw (← c.width-h.ensures.is, ← c.height-d.ensures.is)
-          (cubic_of (curve_knot c.args.self.from) (c.args.self.from.x +ℤ pos c.args.u) _ h d c.args.m c.args.n c.args.u
+          (cubic_of c.args.self.from (c.args.self.from.x +ℤ pos c.args.u) _ h d c.args.m c.args.n c.args.u
           c.rounded.result refl (ap pos c.rounded.ensures ∙ climb_is g) refl);
       small = subst₂ (λ r d. r ≤ d) (sym c.rounded.ensures) c.height-d.ensures.is (climb_small g);
     }

@@ -1,5 +1,4 @@
 use Rattle.std.proofs.Common.{◌+◌, ◌*◌, ◌/◌, ◌≤◌, pos, ◌+ℤ◌, refl, sym, subst}
-use Rattle.engine.specs.Knots.{curve_knot}
 use Rattle.engine.proofs.PieceBounds.{line_of, line_climb_is, line_climb_small}
 use Rattle.engine.proofs.table.piece.Piece.line_climb.Goals as goal
 
@@ -11,7 +10,7 @@ returns c =
     let inside : u ≤ h = subst (λ w. u ≤ w) (sym c.width-h.ensures.is) c.requires in
     record {
       is = rw (← c.width-h.ensures.is, ← c.height-d.ensures.is)
-          (line_of (curve_knot c.args.self.from) (c.args.self.from.x +ℤ pos u) _ h d u _ c.width-h.ensures.some inside
+          (line_of c.args.self.from (c.args.self.from.x +ℤ pos u) _ h d u _ c.width-h.ensures.some inside
           refl (line_climb_is h d u c.width-h.ensures.some) refl);
       small = subst (λ n. (2 * d * u + h) / (2 * h) ≤ n) c.height-d.ensures.is
           (line_climb_small h d u c.width-h.ensures.some inside);
