@@ -80,11 +80,6 @@ abbrev pub load_refusal_text : LoadRefusal → List ℕ
 load_refusal_text (Whole cause) = refusal_text cause
 load_refusal_text (AtKnot i cause) = refusal_text cause ++ codes " index " ++ decimal i
 
--- the first of two refusals
-abbrev pub or_else : Option Told → Option Told → Option Told
-or_else (Some t) later = Some t
-or_else None later = later
-
 -- ---- the outcome of a call that may refuse
 
 -- Where a refusal is due, the call refuses and tells just that; where none is, it answers a value of which P holds.
