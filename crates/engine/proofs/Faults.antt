@@ -1,8 +1,9 @@
 -- The first fault of a list of knots: the loop that looks for it, what it names, and that a list without one is lawful.
 use Rattle.std.proofs.Common.{◌≡◌, ℕ, zero, suc, ◌+◌, ◌<◌, ◌≤◌, Bool, true, false, cond, not, List, [], ◌∷◌, length, drop, Some, None, Option, sym, refl, ap, ◌∙◌, subst, add-zero, add-one, arith}
+use Rattle.std.specs.Option.{option_or}
 use Rattle.std.proofs.lemmas.List.{at_drop_more, at_drop_all}
 use Rattle.std.proofs.lemmas.Bool.{and_from, not-false}
-use Rattle.engine.specs.Refusals.{Told, at_index, or_else}
+use Rattle.engine.specs.Refusals.{Told, at_index}
 use Rattle.engine.specs.Refusals.{not_coordinate, not_rightward, out_of_order, too_far_apart}
 use Rattle.engine.specs.declared.knot.Knot.{Knot}
 use Rattle.engine.specs.Edits.{order_fault, knot_fault, first_fault, before, FirstFault, NamesFirst}
@@ -13,18 +14,18 @@ use Rattle.engine.specs.Knots.{empty, knot_at, fits, rightward, near, upward, ea
 -- a turn at knot i, where the knots that are left give the fault of all
 module _ (ks : List Knot) (all : Option Told) (i : ℕ) (b : Option Knot) (inside : i < length ks)
     (inv : all ≡ first_fault i b (drop i ks)) where
-  turn : all ≡ or_else (knot_fault i b (knot_at ks i)) (first_fault (suc i) (Some (knot_at ks i)) (drop (i + 1) ks))
+  turn : all ≡ option_or (knot_fault i b (knot_at ks i)) (first_fault (suc i) (Some (knot_at ks i)) (drop (i + 1) ks))
   turn = inv ∙ at_drop_more (first_fault i b) ks i empty inside
 
   pub fault_here : (t : Told) → knot_fault i b (knot_at ks i) ≡ Some t → all ≡ Some t
   fault_here t e =
-      turn ∙ ap (λ o. or_else o (first_fault (suc i) (Some (knot_at ks i)) (drop (i + 1) ks))) e
+      turn ∙ ap (λ o. option_or o (first_fault (suc i) (Some (knot_at ks i)) (drop (i + 1) ks))) e
 
   pub fault_later : knot_fault i b (knot_at ks i) ≡ None
       → all ≡ first_fault (i + 1) (Some (knot_at ks i)) (drop (i + 1) ks)
   fault_later e =
       turn
-      ∙ ap (λ o. or_else o (first_fault (suc i) (Some (knot_at ks i)) (drop (i + 1) ks))) e
+      ∙ ap (λ o. option_or o (first_fault (suc i) (Some (knot_at ks i)) (drop (i + 1) ks))) e
       ∙ ap (λ n. first_fault n (Some (knot_at ks i)) (drop (i + 1) ks)) (sym (add-one i))
 
 -- its end
@@ -45,7 +46,7 @@ pub passes : (s : Bool) (t : Told) (later : Option Told) → cond (not s) (Some 
 passes s t later h = let u = unrefused (not s) t later h in (not-false s u.0, u.1)
 
 -- a search that finds nothing found nothing here, and finds nothing later
-neither : (o later : Option Told) → or_else o later ≡ None → (o ≡ None) × (later ≡ None)
+neither : (o later : Option Told) → option_or o later ≡ None → (o ≡ None) × (later ≡ None)
 neither (Some t) later h = (cc, cc)
 neither None later h = (refl, h)
 
@@ -134,7 +135,7 @@ found n b (k ∷ ks) t h = here (knot_fault n b k) refl h (found (suc n) (Some k
             subst (λ m. knot_fault m (follows b (k ∷ ks) (suc j)) (knot_at ks j) ≡ None) (moved j)
             (before_is j (λ o. knot_fault (suc n + j) o (knot_at ks j) ≡ None) (f.faultless j (omega arith)))
 
-    here : (o : Option Told) → knot_fault n b k ≡ o → or_else o (first_fault (suc n) (Some k) ks) ≡ Some t
+    here : (o : Option Told) → knot_fault n b k ≡ o → option_or o (first_fault (suc n) (Some k) ks) ≡ Some t
         → (first_fault (suc n) (Some k) ks ≡ Some t → Found (suc n) (Some k) ks t) → Found n b (k ∷ ks) t
     here (Some u) e h later = record {
       at = 0;

@@ -1,15 +1,16 @@
 -- The edits of a knot table: why each is refused, what it makes of the table, and what the table then has.
-use Rattle.std.specs.Prelude.{◌≡◌, ℕ, zero, suc, ◌<◌, cond, not, ◌&&◌, ◌||◌, ◌⊎◌, List, [], ◌∷◌, length, ℤ, pos, Some, None, Ok, Err, Option, Result, int_le, nat_lt}
+use Rattle.std.specs.Prelude.{◌≡◌, ℕ, zero, suc, ◌<◌, cond, not, ◌&&◌, ◌||◌, ◌⊎◌, List, [], ◌∷◌, length, ℤ, Some, None, Ok, Err, Option, Result, nat_lt}
+use Rattle.std.specs.Option.{option_or}
 use Rattle.engine.specs.Coordinates.{coordinate}
 use Rattle.engine.specs.Curves.{Meaning}
 use Rattle.engine.specs.Fraction.{whole, ◌≈ᶠ◌}
-use Rattle.engine.specs.Refusals.{Told, alone, at_index, or_else}
+use Rattle.engine.specs.Refusals.{Told, alone, at_index}
 use Rattle.engine.specs.Refusals.{not_coordinate, knot_count, not_rightward, out_of_order, too_far_apart, no_knot}
-use Rattle.engine.specs.Refusals.{unknown_kind}
+use Rattle.engine.specs.Kinds.{kind_number}
 use Rattle.engine.specs.declared.knot.Knot.{Knot}
 use Rattle.engine.specs.Knots.{fewest, most, knot_at, fits, rightward, near, upward, neighbours}
 use Rattle.engine.specs.Knots.{with_knot, has_knot, without_knot}
-use Rattle.engine.specs.Tables.{table_curve, kind_number}
+use Rattle.engine.specs.Tables.{table_curve}
 use Rattle.engine.specs.declared.table.KnotTable.{KnotTable}
 use Rattle.engine.specs.Lists.{listed}
 
@@ -54,7 +55,7 @@ knot_fault i before k = cond (not (fits k)) (Some (at_index i not_coordinate)) (
 -- the first fault of the knots that follow `before`, of which the first has the index i
 abbrev pub first_fault : ℕ → Option Knot → List Knot → Option Told
 first_fault i before [] = None
-first_fault i before (k ∷ ks) = or_else (knot_fault i before k) (first_fault (suc i) (Some k) ks)
+first_fault i before (k ∷ ks) = option_or (knot_fault i before k) (first_fault (suc i) (Some k) ks)
 
 -- why a list is refused: its number of knots, then the first fault
 abbrev pub load_refusal : List Knot → Option Told
@@ -130,10 +131,6 @@ pub record Dropped (x : ℤ) (was new : KnotTable) : Type 0 where
   pub none_comes : (k : Knot) → Has k (knots_of new) → Has k (knots_of was)
 
 -- ---- kind
-
--- the kinds have the numbers 0 to 2
-abbrev pub kind_refusal : ℤ → Option Told
-kind_refusal k = cond (int_le (pos 0) k && int_le k (pos 2)) None (Some (alone unknown_kind))
 
 -- the same knots, with the kind that has this number
 pub record Rekinded (k : ℤ) (was new : KnotTable) : Type 0 where

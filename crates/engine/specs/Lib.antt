@@ -7,6 +7,7 @@ pub mod Pieces
 pub mod Root
 pub mod Refusals
 pub mod Bands
+pub mod Kinds
 pub mod Knots
 pub mod Tables
 pub mod Neighbours

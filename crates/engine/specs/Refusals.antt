@@ -1,5 +1,5 @@
 -- Why a call is turned away: the numbers, what a refusal tells, and the outcome of a call that may refuse.
-use Rattle.std.specs.Prelude.{◌≡◌, ℕ, Some, None, Ok, Err, Option, Result}
+use Rattle.std.specs.Prelude.{◌≡◌, ℕ, List, ◌++◌, Some, None, Ok, Err, Option, Result, codes, decimal}
 use Rattle.engine.specs.declared.refusal.Refusal.{Refusal}
 use Rattle.engine.specs.declared.refusal.Refusal.TheVariants.{NotCoordinate, KnotCount, NotRightward, OutOfOrder}
 use Rattle.engine.specs.declared.refusal.Refusal.TheVariants.{TooFarApart, NoKnot, UnknownKind, OutOfLimits}
@@ -72,10 +72,13 @@ abbrev pub load_told : LoadRefusal → Told
 load_told (Whole cause) = told cause
 load_told (AtKnot i cause) = at_index i (told cause).number
 
--- the first of two refusals
-abbrev pub or_else : Option Told → Option Told → Option Told
-or_else (Some t) later = Some t
-or_else None later = later
+-- what `{}` writes of a refusal: its number, and the index of a knot at fault
+abbrev pub refusal_text : Refusal → List ℕ
+refusal_text r = codes "refused " ++ decimal (told r).number
+
+abbrev pub load_refusal_text : LoadRefusal → List ℕ
+load_refusal_text (Whole cause) = refusal_text cause
+load_refusal_text (AtKnot i cause) = refusal_text cause ++ codes " index " ++ decimal i
 
 -- ---- the outcome of a call that may refuse
 

@@ -132,9 +132,3 @@ table_curve kind ks =
     let k : ℕ → Knot = knot_at ks in
     let top : ℕ = length ks - 1 in
     meaning (table_value kind k top) (table_exact kind k top) (table_rise kind k top) (table_radius kind)
-
--- the numbers of the kinds
-abbrev pub kind_number : Kind → ℤ
-kind_number Step = pos 0
-kind_number Line = pos 1
-kind_number Cubic = pos 2

@@ -15,7 +15,7 @@ pub const FURTHEST: i32 = 16383;
 pub fn is_coordinate(x: i32) -> bool
     ensures { result ≡ coordinate x }
 {
-    LOWEST <= x && x <= HIGHEST
+    (LOWEST..=HIGHEST).contains(&x)
 }
 
 // x held to the coordinates.

@@ -1,44 +1,31 @@
 //! Why a call is turned away.
 
-ghost use Rattle.std.specs.Prelude.{◌≡◌};
-ghost use Rattle.engine.specs.Refusals.{told, load_told};
+ghost use Rattle.std.specs.Prelude.{◌≡◌, Some};
+ghost use Rattle.engine.specs.Refusals.{told, load_told, refusal_text, load_refusal_text};
+ghost use Rattle.engine.specs.declared.refusal.LoadRefusal.TheVariants.{Whole};
 
-/// Not a coordinate.
-pub const NOT_COORDINATE: u8 = 1;
-/// Knots not 2 to 96.
-pub const KNOT_COUNT: u8 = 2;
-/// A knot's x not above the x before.
-pub const NOT_RIGHTWARD: u8 = 3;
-/// A knot's y out of order with a neighbour.
-pub const OUT_OF_ORDER: u8 = 4;
-/// Knots more than 4096 apart.
-pub const TOO_FAR_APART: u8 = 5;
-/// No knot at x.
-pub const NO_KNOT: u8 = 6;
-/// Unknown kind of table.
-pub const UNKNOWN_KIND: u8 = 7;
-/// An argument outside its limits, or a band reversed.
-pub const OUT_OF_LIMITS: u8 = 11;
+use std::error::Error;
+use std::fmt;
 
-/// The reason of a refusal.
+/// The reason of a refusal. Its discriminant is the number that users know it by.
 #[derive(Clone, Copy, PartialEq, Eq, Debug)]
 pub enum Refusal {
     /// A number that has to be a coordinate is none.
-    NotCoordinate,
+    NotCoordinate = 1,
     /// A table would have fewer than 2 or more than 96 knots.
-    KnotCount,
+    KnotCount = 2,
     /// A knot's x is not above the x before.
-    NotRightward,
+    NotRightward = 3,
     /// A knot's y is below the y before, or above the y after.
-    OutOfOrder,
+    OutOfOrder = 4,
     /// Neighbouring knots are more than 4096 apart.
-    TooFarApart,
+    TooFarApart = 5,
     /// No knot stands at x.
-    NoKnot,
+    NoKnot = 6,
     /// No kind of table has this number.
-    UnknownKind,
+    UnknownKind = 7,
     /// An argument is outside its limits, or a band is reversed.
-    OutOfLimits,
+    OutOfLimits = 11,
 }
 
 impl Refusal {
@@ -46,18 +33,20 @@ impl Refusal {
     pub fn number(self) -> u8
         ensures { result ≡ (told self).number }
     {
-        match self {
-            Refusal::NotCoordinate => NOT_COORDINATE,
-            Refusal::KnotCount => KNOT_COUNT,
-            Refusal::NotRightward => NOT_RIGHTWARD,
-            Refusal::OutOfOrder => OUT_OF_ORDER,
-            Refusal::TooFarApart => TOO_FAR_APART,
-            Refusal::NoKnot => NO_KNOT,
-            Refusal::UnknownKind => UNKNOWN_KIND,
-            Refusal::OutOfLimits => OUT_OF_LIMITS,
-        }
+        self as u8
     }
 }
+
+impl fmt::Display for Refusal {
+    ghost output = { λ r. Some (refusal_text r) };
+
+    fn fmt<W: fmt::Write>(&self, f: &mut fmt::Formatter<W>) -> fmt::Result {
+        let number = self.number();
+        write!(f, "refused {number}")
+    }
+}
+
+impl Error for Refusal {}
 
 /// Why a list of knots is turned away.
 #[derive(Clone, Copy, PartialEq, Eq, Debug)]
@@ -74,8 +63,28 @@ impl LoadRefusal {
         ensures { result ≡ (load_told self).number }
     {
         match self {
-            LoadRefusal::Whole(cause) => cause.number(),
-            LoadRefusal::AtKnot { cause, .. } => cause.number(),
+            LoadRefusal::Whole(cause) | LoadRefusal::AtKnot { cause, .. } => cause.number(),
         }
     }
 }
+
+impl From<Refusal> for LoadRefusal {
+    ghost from_gives = { λ cause r. r ≡ Whole cause };
+
+    fn from(cause: Refusal) -> Self {
+        Self::Whole(cause)
+    }
+}
+
+impl fmt::Display for LoadRefusal {
+    ghost output = { λ r. Some (load_refusal_text r) };
+
+    fn fmt<W: fmt::Write>(&self, f: &mut fmt::Formatter<W>) -> fmt::Result {
+        match *self {
+            LoadRefusal::Whole(cause) => write!(f, "{cause}"),
+            LoadRefusal::AtKnot { index, cause } => write!(f, "{cause} index {index}"),
+        }
+    }
+}
+
+impl Error for LoadRefusal {}

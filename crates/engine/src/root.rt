@@ -1,8 +1,6 @@
 //! The root curve, for the flow through a nozzle.
 
-ghost use Rattle.std.specs.Prelude.{◌≡◌, ◌<◌, pos, unsigned_abs};
-ghost use Rattle.engine.specs.Coordinates.{hold};
-ghost use Rattle.engine.specs.Root.{root_entry, root_curve, RootTable};
+ghost use Rattle.engine.specs.Root.{root_curve, RootTable};
 ghost use Rattle.engine.specs.RootRules.{root_rules};
 
 use self::entries::ROOTS;
@@ -15,22 +13,6 @@ fn roots() -> &'static [u16; 1024]
     ensures { RootTable result.now }
 {
     &ROOTS
-}
-
-// Entry i of the table.
-fn root_at(i: usize) -> u16
-    requires { i < 1024 }
-    ensures { result ≡ root_entry i }
-{
-    roots()[i]
-}
-
-// x held to 0..1023
-fn slot(x: i32) -> usize
-    ensures is { result ≡ unsigned_abs (hold (pos 0) (pos 1023) x) }
-    ensures small { result < 1024 }
-{
-    x.clamp(0, 1023) as usize
 }
 
 /// The root curve: at x from 0 to 1023 the greatest whole number whose square is at most 65536 x, flat beyond.
@@ -49,7 +31,7 @@ impl Curve for Root {
     ghost keeps = { λ s. root_rules };
 
     fn value(&self, x: i32) -> i32 {
-        i32::from(root_at(slot(x)))
+        i32::from(roots()[x.clamp(0, 1023) as usize])
     }
 
     fn rise(&self) -> u16 {

@@ -1,5 +1,6 @@
 -- The flow of a nozzle row: its table keeps the law.
 use Rattle.std.proofs.Common.{◌≡◌, ℕ, ℤ, nat_abs, ◌≤ℤ◌, Some, None, Ok, Err, Option, Result, ap, ◌∙◌, subst, arith}
+use Rattle.std.specs.Option.{option_or}
 use mathlib.Core.Path.{subst₃}
 use borrow.Author.Differences.{ints}
 use Rattle.engine.specs.Bands.{IsBand, band_refusal}
@@ -8,7 +9,7 @@ use Rattle.engine.specs.Refusals.{Told, Outcome, told}
 use Rattle.engine.specs.declared.band.Band.{Band}
 use Rattle.engine.specs.declared.refusal.Refusal.{Refusal}
 use Rattle.engine.specs.Holds.{hold_low, hold_high}
-use Rattle.tabulate.specs.Flow.{FlowCurve, FlowLaw, FlowTable, Piled, asked_flow, flow_of, flow_row, or_else, pile, settings_refusal}
+use Rattle.tabulate.specs.Flow.{FlowCurve, FlowLaw, FlowTable, Piled, asked_flow, flow_of, flow_row, pile, settings_refusal}
 use Rattle.tabulate.specs.Tables.{Faithful, count_of, IsTable, TableLaw, step_refusal}
 use Rattle.tabulate.specs.declared.nozzle.Settings.{Settings}
 use Rattle.tabulate.specs.declared.table.Row.{Row}
@@ -18,11 +19,11 @@ use Rattle.tabulate.proofs.Laws.{each_row}
 -- ---- refusals
 
 -- a refusal comes first, or a later one comes where there is none
-pub refused_first : {first : Option Told} {t : Told} (later : Option Told) → first ≡ Some t → or_else first later ≡ Some t
-refused_first later e = ap (λ o. or_else o later) e
+pub refused_first : {first : Option Told} {t : Told} (later : Option Told) → first ≡ Some t → option_or first later ≡ Some t
+refused_first later e = ap (λ o. option_or o later) e
 
-pub refused_later : {first later due : Option Told} → first ≡ None → later ≡ due → or_else first later ≡ due
-refused_later {first} {later} e d = ap (λ o. or_else o later) e ∙ d
+pub refused_later : {first later due : Option Told} → first ≡ None → later ≡ due → option_or first later ≡ due
+refused_later {first} {later} e d = ap (λ o. option_or o later) e ∙ d
 
 -- ---- the table
 

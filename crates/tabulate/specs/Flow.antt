@@ -1,5 +1,6 @@
 -- The flow of a nozzle row: its settings, its curve and the law of its table.
-use Rattle.std.specs.Prelude.{◌≡◌, ℕ, ℤ, pos, ◌≤ℤ◌, Some, None, Option, unsigned_abs}
+use Rattle.std.specs.Prelude.{◌≡◌, ℕ, ℤ, pos, ◌≤ℤ◌, Some, Option, unsigned_abs}
+use Rattle.std.specs.Option.{option_or}
 use Rattle.engine.specs.Coordinates.{held_shift}
 use Rattle.engine.specs.Curves.{Meaning, bare, chain, offset, clamp}
 use Rattle.engine.specs.Root.{root_curve}
@@ -41,15 +42,10 @@ pub record Piled (zero trim : ℤ) (limit : Band) (c : FlowCurve) : Type 0 where
 
 -- ---- the answer
 
--- the first of two refusals
-abbrev pub or_else : Option Told → Option Told → Option Told
-or_else (Some t) later = Some t
-or_else None later = later
-
 -- the limit is a band, then the span is one, then the step is lawful
 abbrev pub settings_refusal : Settings → Option Told
 settings_refusal s =
-    or_else (band_refusal s.low s.high) (or_else (band_refusal s.first s.last) (step_refusal s.step))
+    option_or (band_refusal s.low s.high) (option_or (band_refusal s.first s.last) (step_refusal s.step))
 
 -- the table that the settings ask for, number by number
 pub record FlowTable (s : Settings) (t : Table FlowCurve) : Type 0 where

@@ -1,8 +1,9 @@
 -- The reflectance of a sorting head: its curve and the law of its table.
 use Rattle.std.specs.Prelude.{◌≡◌, ℕ, List, [], ◌∷◌, pos, neg_ℤ, Option, unsigned_abs}
+use Rattle.std.specs.Option.{option_or}
 use Rattle.engine.specs.Bands.{band_refusal}
 use Rattle.engine.specs.Curves.{Meaning}
-use Rattle.engine.specs.Refusals.{Told, or_else}
+use Rattle.engine.specs.Refusals.{Told}
 use Rattle.engine.specs.declared.knot.Knot.{Knot}
 use Rattle.engine.specs.Edits.{curve_of, knots_of}
 use Rattle.engine.specs.Knots.{knot}
@@ -41,7 +42,7 @@ reflectance = table_curve Cubic head_knots
 
 -- the span is a band, then the step is lawful
 abbrev pub span_refusal : Span → Option Told
-span_refusal s = or_else (band_refusal s.first s.last) (step_refusal s.step)
+span_refusal s = option_or (band_refusal s.first s.last) (step_refusal s.step)
 
 -- the table of the head's curve at these readings
 pub record ReflectanceTable (s : Span) (t : Table KnotTable) : Type 0 where

@@ -1,7 +1,6 @@
 //! One curve after another.
 
-ghost use Rattle.std.specs.Prelude.{◌≡◌, min};
-ghost use Rattle.engine.specs.Coordinates.{furthest};
+ghost use Rattle.std.specs.Prelude.{◌≡◌};
 ghost use Rattle.engine.specs.Curves.{chain};
 ghost use Rattle.engine.specs.Means.{means};
 ghost use Rattle.engine.specs.Layers.{chain_rules};
@@ -19,7 +18,8 @@ pub struct Chain<G, F> {
 impl<G, F> Chain<G, F> {
     /// The outer curve after the inner one.
     pub fn new(outer: G, inner: F) -> Chain<G, F>
-        ensures { (result.outer ≡ outer) × (result.inner ≡ inner) }
+        ensures outer { result.outer ≡ outer }
+        ensures inner { result.inner ≡ inner }
     {
         Chain { outer, inner }
     }
@@ -41,20 +41,13 @@ impl<G: Curve, F: Curve> Curve for Chain<G, F> {
     }
 
     fn rise(&self) -> u16 {
-        capped(u32::from(self.outer.rise()) * u32::from(self.inner.rise()))
+        let both = self.outer.rise().saturating_mul(self.inner.rise());
+        both.min(FURTHEST as u16)
     }
 
     fn radius(&self) -> u16 {
-        capped(
-            u32::from(self.outer.radius())
-                + u32::from(self.outer.rise()) * u32::from(self.inner.radius()),
-        )
+        let inner = self.outer.rise().saturating_mul(self.inner.radius());
+        let both = self.outer.radius().saturating_add(inner);
+        both.min(FURTHEST as u16)
     }
-}
-
-// A rise or a radius held to 0..16383.
-fn capped(n: u32) -> u16
-    ensures { result ≡ min n furthest }
-{
-    n.min(FURTHEST as u32) as u16
 }

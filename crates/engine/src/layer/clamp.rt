@@ -19,7 +19,8 @@ pub struct Clamp<C> {
 impl<C> Clamp<C> {
     /// The curve below held to the band.
     pub fn new(below: C, band: Band) -> Clamp<C>
-        ensures { (result.below ≡ below) × (result.band ≡ band) }
+        ensures below { result.below ≡ below }
+        ensures band { result.band ≡ band }
     {
         Clamp { below, band }
     }

@@ -1,7 +1,7 @@
 //! A curve moved by a shift.
 
-ghost use Rattle.std.specs.Prelude.{◌≡◌, ◌+ℤ◌, ◌≤ℤ◌};
-ghost use Rattle.engine.specs.Coordinates.{Coordinate, least_shift, greatest_shift, held_shift};
+ghost use Rattle.std.specs.Prelude.{◌≡◌, ◌≤ℤ◌};
+ghost use Rattle.engine.specs.Coordinates.{least_shift, greatest_shift, held_shift};
 ghost use Rattle.engine.specs.Curves.{offset};
 ghost use Rattle.engine.specs.Means.{means};
 ghost use Rattle.engine.specs.Layers.{offset_rules};
@@ -21,23 +21,14 @@ pub struct Offset<C> {
 impl<C> Offset<C> {
     /// The curve below moved by c, which is held to -16383..16383.
     pub fn new(below: C, c: i32) -> Offset<C>
-        ensures { (result.below ≡ below) × (result.shift ≡ held_shift c) }
+        ensures below { result.below ≡ below }
+        ensures shift { result.shift ≡ held_shift c }
     {
         Offset {
             below,
             shift: c.clamp(-FURTHEST, FURTHEST),
         }
     }
-}
-
-// A value moved by a shift.
-fn moved(v: i32, shift: i32) -> i32
-    requires coordinate { Coordinate v }
-    requires low { least_shift ≤ℤ shift }
-    requires high { shift ≤ℤ greatest_shift }
-    ensures { result ≡ v +ℤ shift }
-{
-    v + shift
 }
 
 impl<C: Curve> Curve for Offset<C> {
@@ -52,7 +43,8 @@ impl<C: Curve> Curve for Offset<C> {
     ghost keeps = { λ s. offset_rules s.shift _ (C.Curve.keeps s.below) };
 
     fn value(&self, x: i32) -> i32 {
-        held(moved(self.below.value(x), self.shift))
+        let moved = self.below.value(x) + self.shift;
+        held(moved)
     }
 
     fn rise(&self) -> u16 {

@@ -4,7 +4,8 @@ ghost use Rattle.std.specs.Prelude.{◌≡◌};
 ghost use Rattle.engine.specs.Refusals.{Outcome, load_told, told};
 ghost use Rattle.engine.specs.Drafts.{IsTable};
 ghost use Rattle.engine.specs.Edits.{Dropped, Edited, Loaded, NamesFirst, Put, Rekinded, WhereRefused};
-ghost use Rattle.engine.specs.Edits.{drop_refusal, kind_refusal, knots_of, load_refusal, put_refusal};
+ghost use Rattle.engine.specs.Edits.{drop_refusal, knots_of, load_refusal, put_refusal};
+ghost use Rattle.engine.specs.Kinds.{kind_refusal};
 ghost use Rattle.engine.specs.Lists.{listed};
 ghost use Rattle.engine.specs.Knots.{start_knots};
 ghost use Rattle.engine.specs.declared.kind.Kind.TheVariants.{Line as LineKind};
@@ -87,12 +88,7 @@ impl KnotTable {
         ensures { Edited told (kind_refusal k) (Rekinded k self.old) result
             self.old self.new }
     {
-        let kind = match k {
-            0 => Kind::Step,
-            1 => Kind::Line,
-            2 => Kind::Cubic,
-            _ => return Err(Refusal::UnknownKind),
-        };
+        let kind = Kind::try_from(k)?;
         *self = KnotTable {
             list: self.list,
             slopes: self.slopes,
