@@ -1,12 +1,12 @@
 -- Stored slopes as the code computes them, and the products that fit 64 bits.
-use Rattle.std.proofs.Common.{◌≡◌, ℕ, zero, suc, ◌+◌, ◌-◌, ◌*◌, ◌/◌, ◌<◌, ◌≤◌, true, cond, ◌||◌, eqb, ◌⊎◌, List, length, ℤ, pos, negsuc, ◌+ℤ◌, ◌≤ℤ◌, w32, SFits, refl, sym, ap, ◌∙◌, subst, subst₂, ap₂, inl, inr, le_trans, mul-le-mul_right, mul-le-mul, mul-le-mul_left, arith}
+use Rattle.std.proofs.Common.{◌≡◌, ℕ, zero, suc, ◌+◌, ◌-◌, ◌*◌, ◌/◌, ◌<◌, ◌≤◌, true, cond, ◌||◌, eqb, ◌⊎◌, List, length, ℤ, pos, negsuc, ◌+ℤ◌, w32, SFits, refl, sym, ap, ◌∙◌, subst, ap₂, inl, inr, le_trans, mul-le-mul_right, mul-le-mul, mul-le-mul_left, arith}
 use native.Mathlib.Decide.{dec_le}
 use Rattle.std.specs.Prelude.{slice_index}
 use Rattle.std.specs.Array.{IsFromFnResult, IsFromFnResultFrom}
 use Rattle.std.specs.Fn.{Called, Mut}
 use Rattle.std.proofs.lemmas.Bool.{cases_eq, eq-eqb, ne_eqb, or_left, or_right, or_from}
 use Rattle.engine.specs.Fraction.{whole, ◌÷◌, ◌*ᶠ◌}
-use Rattle.engine.specs.Coordinates.{Coordinate, lowest, highest}
+use Rattle.engine.specs.Coordinates.{Coordinate}
 use Rattle.engine.specs.Pieces.{width, height}
 use Rattle.engine.specs.declared.knot.Knot.{Knot}
 use Rattle.engine.specs.Knots.{knot_at}

@@ -1,11 +1,11 @@
 -- What an honoured edit leaves in a table.
-use Rattle.std.proofs.Common.{◌≡◌, ℕ, ◌+◌, ◌-◌, ◌<◌, ◌≤◌, true, List, ◌∷◌, ◌++◌, length, take, drop, ℤ, None, sym, ap, ◌∙◌, subst, arith}
-use Rattle.std.proofs.lemmas.List.{length-take-le, get_or-append_right, take-take}
+use Rattle.std.proofs.Common.{◌≡◌, ℕ, ◌-◌, ◌<◌, List, ◌∷◌, length, take, drop, ℤ, None, sym, ap, ◌∙◌, subst, arith}
+use Rattle.std.proofs.lemmas.List.{length-take-le, get_or-append_right}
 use Rattle.engine.specs.Fraction.{whole, ◌≈ᶠ◌}
 use Rattle.engine.specs.declared.knot.Knot.{Knot}
 use Rattle.engine.specs.Drafts.{Slotted}
 use Rattle.engine.specs.Edits.{knots_of, curve_of, Has, put_refusal, drop_refusal, Put, Dropped}
-use Rattle.engine.specs.Knots.{fewest, most, empty, knot, knot_at, lawful, with_knot, without_knot}
+use Rattle.engine.specs.Knots.{empty, knot, knot_at, with_knot, without_knot}
 use Rattle.engine.specs.Theorems.{TableLaw}
 use Rattle.engine.specs.declared.table.KnotTable.{KnotTable}
 use Rattle.engine.proofs.KnotEdits.{with_length, put_stay, put_none, drop_stay, drop_none, drop_gone}

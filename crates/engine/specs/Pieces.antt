@@ -1,5 +1,5 @@
 -- Curves made of pieces between knots. The knots are given by index: `k i` for i from 0 to `top`.
-use Rattle.std.specs.Prelude.{ℕ, zero, suc, Bool, cond, ℤ, pos, ◌-ℤ◌, ◌==◌, unsigned_abs}
+use Rattle.std.specs.Prelude.{ℕ, zero, suc, Bool, cond, pos, ◌-ℤ◌, ◌==◌, unsigned_abs}
 use Rattle.engine.specs.Fraction.{Fraction, whole, ◌+ᶠ◌, ◌-ᶠ◌, ◌*ᶠ◌, ◌/ᶠ◌, leᶠ}
 use Rattle.engine.specs.declared.knot.Knot.{Knot}
 

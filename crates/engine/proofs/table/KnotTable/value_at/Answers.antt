@@ -3,7 +3,7 @@ use Rattle.std.proofs.lemmas.Int.{to_z-of_z}
 use Rattle.engine.specs.Lists.{listed}
 use Rattle.engine.specs.Knots.{knot_at}
 use Rattle.engine.specs.Neighbours.{Gentle, piece_value}
-use Rattle.engine.proofs.Lists.{enough, size}
+use Rattle.engine.proofs.Lists.{enough}
 use Rattle.engine.proofs.TableValues.{none_reached, all_reached, reached_start, reached_end, reached_value}
 use Rattle.engine.proofs.table.KnotTable.value_at.Goals as goal
 

@@ -1,6 +1,5 @@
 use Rattle.std.proofs.Common.{◌∙◌, sym}
 use Rattle.engine.specs.Edits.{knots_of}
-use Rattle.engine.proofs.Lists.{enough}
 use Rattle.engine.proofs.KnotEdits.{put_ok}
 use Rattle.engine.proofs.TableEdits.{put_done}
 use Rattle.engine.proofs.table.KnotTable.with_knot.Goals as goal

@@ -1,4 +1,4 @@
-use Rattle.std.proofs.Common.{◌≡◌, ◌*◌, ◌/◌, ◌<◌, ◌≤◌, pos, sym, ap, ◌∙◌, subst, ap₂, inl, inr, arith}
+use Rattle.std.proofs.Common.{◌*◌, ◌/◌, ◌<◌, pos, sym, ap, ◌∙◌, subst, ap₂, inl, inr, arith}
 use Rattle.engine.specs.Neighbours.{piece_height, piece_width}
 use Rattle.engine.proofs.StoredSlopes.{bottom_some, low, mean_flat, mean_is, mean_small, narrow, top_fits, wide}
 use Rattle.engine.proofs.table.slopes.inner_slope.Goals as goal

@@ -21,7 +21,7 @@ returns c =
     let t = c.args.self.now in
     let ks = listed t.list in
     let all : c.loop-i.i ≡ length ks - 1 =
-        omega (arith, c.loop-i-test.false, c.len-i-end.ensures, enough t.list, c.loop-i.auto.i-end) in
+    omega (arith, c.loop-i-test.false, c.len-i-end.ensures, enough t.list, c.loop-i.auto.i-end) in
     c.min.ensures
     ∙ ap (λ n. min n furthest) (c.loop-i.invariant ∙ ap (steepest t.kind (knot_at ks)) all)
     ∙ steepest_held t.kind ks (enough t.list) t.list.ok

@@ -1,4 +1,3 @@
-use Rattle.std.proofs.Common.{◌+◌, ◌<◌, length}
 use Rattle.engine.specs.Lists.{listed}
 use Rattle.engine.specs.Lawfuls.{piece_after}
 use Rattle.engine.proofs.table.list.KnotList.piece.Goals as goal

@@ -15,8 +15,8 @@ returns c =
     let l = c.args.self.now in
     let ks = c.as_slice.result.now in
     let first : IsPartitionedBy (λ (k : Knot). int_le k.x c.args.x) ks =
-        subst (IsPartitionedBy (λ (k : Knot). int_le k.x c.args.x)) (sym c.as_slice.ensures)
-        (reached_first (listed l) (parts (listed l) l.ok).1 c.args.x) in
+    subst (IsPartitionedBy (λ (k : Knot). int_le k.x c.args.x)) (sym c.as_slice.ensures)
+    (reached_first (listed l) (parts (listed l) l.ok).1 c.args.x) in
     subst (λ ks. Reached ks c.args.x c.partition_point.result) c.as_slice.ensures
     (reached_until ks c.args.x c.partition_point.result c.partition_point.ensures.bound
     (IsPartitionPoint-from_clause (λ (k : Knot). int_le k.x c.args.x) ks c.partition_point.result

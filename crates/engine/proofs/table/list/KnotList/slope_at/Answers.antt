@@ -1,4 +1,4 @@
-use Rattle.std.proofs.Common.{◌+◌, ◌<◌, length, ap, ◌∙◌, sym, arith}
+use Rattle.std.proofs.Common.{◌∙◌, arith}
 use Rattle.engine.specs.Lists.{listed}
 use Rattle.engine.proofs.StoredSlopes.{slope_first, slope_last, slope_inner}
 use Rattle.engine.proofs.table.list.KnotList.slope_at.Goals as goal

@@ -1,7 +1,5 @@
-use Rattle.std.proofs.Common.{◌≡◌, sym, ap, ◌∙◌, Some, arith, w32, of_z}
+use Rattle.std.proofs.Common.{sym, ap, ◌∙◌, arith, w32, of_z}
 use Rattle.std.proofs.lemmas.Int.{to_z-of_z}
-use Rattle.engine.specs.declared.knot.Knot.{Knot}
-use Rattle.engine.specs.Edits.{before}
 use Rattle.engine.specs.Lists.{listed}
 use Rattle.engine.specs.Lawfuls.{parts}
 use Rattle.engine.proofs.Slots.{same_x, slot_apart, slot_at}
