@@ -5,6 +5,7 @@ ghost use Rattle.engine.specs.Edits.{curve_of};
 ghost use Rattle.engine.specs.TableRules.{array_rules};
 
 use super::KnotTable;
+use super::piece::SlopedPiece;
 use crate::coordinate::{FURTHEST, held};
 use crate::curve::Curve;
 use crate::kind::Kind;
@@ -53,7 +54,7 @@ impl KnotTable {
         if n == ks.len() {
             return ks[n - 1].y;
         }
-        let piece = self.list.piece(n - 1);
-        piece.value(self.kind, self.slopes[n - 1], self.slopes[n], x)
+        let piece = SlopedPiece::new(self.list.piece(n - 1), self.slopes[n - 1], self.slopes[n]);
+        piece.value(self.kind, x)
     }
 }

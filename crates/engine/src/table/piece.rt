@@ -6,7 +6,7 @@ ghost use Rattle.engine.specs.Fraction.{◌÷◌};
 ghost use Rattle.engine.specs.Pieces.{widest};
 ghost use Rattle.engine.specs.Neighbours.{Gentle, Neighbours, piece_height, piece_rise, piece_value, piece_width};
 ghost use Rattle.engine.specs.Tables.{round_up};
-ghost use Rattle.engine.specs.declared.kind.Kind.TheVariants.{Cubic, Line};
+ghost use Rattle.engine.specs.declared.kind.Kind.TheVariants.{Cubic};
 
 use crate::kind::Kind;
 use crate::knot::Knot;
@@ -46,61 +46,6 @@ impl Piece {
         u64::from(self.to.y.abs_diff(self.from.y))
     }
 
-    // Its value at x, by its kind; m and n are the stored slopes at its ends.
-    pub(super) fn value(self, kind: Kind, m: u32, n: u32, x: i32) -> i32
-        requires from { self.from.x ≤ℤ x }
-        requires to { x ≤ℤ self.to.x }
-        requires start { Gentle self.from self.to m }
-        requires end { Gentle self.from self.to n }
-        ensures { result ≡ piece_value kind self.from self.to (pos m) (pos n) x }
-    {
-        let u = u64::from(x.abs_diff(self.from.x));
-        self.from.y + self.climb(kind, m, n, u) as i32
-    }
-
-    // What it adds to its first y at u from its start.
-    fn climb(self, kind: Kind, m: u32, n: u32, u: u64) -> u64
-        requires inside { u ≤ piece_width self.from self.to }
-        requires start { Gentle self.from self.to m }
-        requires end { Gentle self.from self.to n }
-        ensures is { (self.from.y +ℤ pos result)
-            ≡ piece_value kind self.from self.to (pos m) (pos n) (self.from.x +ℤ pos u) }
-        ensures small { result ≤ piece_height self.from self.to }
-    {
-        match kind {
-            Kind::Step => 0,
-            Kind::Line => self.line_climb(u),
-            Kind::Cubic => self.cubic_climb(u64::from(m), u64::from(n), u),
-        }
-    }
-
-    // The same of a straight piece.
-    fn line_climb(self, u: u64) -> u64
-        requires { u ≤ piece_width self.from self.to }
-        ensures is { (self.from.y +ℤ pos result)
-            ≡ piece_value Line self.from self.to (pos 0) (pos 0) (self.from.x +ℤ pos u) }
-        ensures small { result ≤ piece_height self.from self.to }
-    {
-        let (h, d) = (self.width(), self.height());
-        (2 * d * u + h) / (2 * h)
-    }
-
-    // The same of a cubic piece.
-    fn cubic_climb(self, m: u64, n: u64, u: u64) -> u64
-        requires inside { u ≤ piece_width self.from self.to }
-        requires start { Gentle self.from self.to m }
-        requires end { Gentle self.from self.to n }
-        ensures is { (self.from.y +ℤ pos result)
-            ≡ piece_value Cubic self.from self.to (pos m) (pos n) (self.from.x +ℤ pos u) }
-        ensures small { result ≤ piece_height self.from self.to }
-    {
-        let (h, d) = (self.width(), self.height());
-        let v = h - u;
-        let gain = 2048 * d * (u * u) * (u + 3 * v) + m * h * u * (v * v);
-        let loss = n * h * (u * u) * v;
-        rounded(gain - loss, h * h * h)
-    }
-
     // Its rise.
     pub(super) fn rise(self, kind: Kind) -> u64
         ensures { result ≡ piece_rise kind self.from self.to }
@@ -110,6 +55,70 @@ impl Piece {
             Kind::Line => quotient_up(self.height(), self.width()),
             Kind::Cubic => quotient_up(3 * self.height(), self.width()),
         }
+    }
+}
+
+/// A piece with the stored slopes at its ends, each at most three secants.
+#[derive(Clone, Copy)]
+pub(super) struct SlopedPiece {
+    piece: Piece,
+    start: u32,
+    end: u32,
+    ghost gentle_start: { Gentle piece.from piece.to start },
+    ghost gentle_end: { Gentle piece.from piece.to end },
+}
+
+impl SlopedPiece {
+    // The piece with these slopes.
+    pub(super) fn new(piece: Piece, start: u32, end: u32) -> SlopedPiece
+        requires start { Gentle piece.from piece.to start }
+        requires end { Gentle piece.from piece.to end }
+        ensures piece { result.piece ≡ piece }
+        ensures start { result.start ≡ start }
+        ensures end { result.end ≡ end }
+    {
+        SlopedPiece { piece, start, end }
+    }
+
+    // Its value at x, by its kind.
+    pub(super) fn value(self, kind: Kind, x: i32) -> i32
+        requires from { self.piece.from.x ≤ℤ x }
+        requires to { x ≤ℤ self.piece.to.x }
+        ensures { result ≡ piece_value kind self.piece.from self.piece.to (pos self.start) (pos self.end) x }
+    {
+        let from = self.piece.from;
+        let u = u64::from(x.abs_diff(from.x));
+        from.y + self.climb(kind, u) as i32
+    }
+
+    // What it adds to its first y at u from its start.
+    fn climb(self, kind: Kind, u: u64) -> u64
+        requires { u ≤ piece_width self.piece.from self.piece.to }
+        ensures is { (self.piece.from.y +ℤ pos result) ≡ piece_value kind self.piece.from self.piece.to
+            (pos self.start) (pos self.end) (self.piece.from.x +ℤ pos u) }
+        ensures small { result ≤ piece_height self.piece.from self.piece.to }
+    {
+        let (h, d) = (self.piece.width(), self.piece.height());
+        match kind {
+            Kind::Step => 0,
+            Kind::Line => (2 * d * u + h) / (2 * h),
+            Kind::Cubic => self.cubic_climb(u),
+        }
+    }
+
+    // The same of a cubic piece.
+    fn cubic_climb(self, u: u64) -> u64
+        requires { u ≤ piece_width self.piece.from self.piece.to }
+        ensures is { (self.piece.from.y +ℤ pos result) ≡ piece_value Cubic self.piece.from self.piece.to
+            (pos self.start) (pos self.end) (self.piece.from.x +ℤ pos u) }
+        ensures small { result ≤ piece_height self.piece.from self.piece.to }
+    {
+        let (h, d) = (self.piece.width(), self.piece.height());
+        let (m, n) = (u64::from(self.start), u64::from(self.end));
+        let v = h - u;
+        let gain = 2048 * d * (u * u) * (u + 3 * v) + m * h * u * (v * v);
+        let loss = n * h * (u * u) * v;
+        rounded(gain - loss, h * h * h)
     }
 }
 
