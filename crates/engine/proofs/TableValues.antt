@@ -14,7 +14,7 @@ use Rattle.engine.specs.Orders.{leZ_true, leZ_false}
 use Rattle.engine.specs.Drafts.{Reached}
 use Rattle.engine.specs.Knots.{fewest, knot_at, lawful}
 use Rattle.engine.specs.Neighbours.{Gentle, Neighbours, piece_value, piece_rise}
-use Rattle.engine.specs.Tables.{Slopes, slope, stored, value_from, greatest, table_value, table_rise, secant}
+use Rattle.engine.specs.Tables.{stored_at, slope, stored, value_from, greatest, table_value, table_rise, secant}
 use Rattle.engine.specs.declared.kind.Kind.{Kind}
 use Rattle.engine.specs.declared.kind.Kind.TheVariants.{Step, Line, Cubic}
 use Rattle.engine.specs.CubicPieces.{Slope}
@@ -53,71 +53,64 @@ module _ (k : ℕ → Knot) (top : ℕ) (law : LawfulTable k top) where
   unfolding width height
   end_gentle i c l e = gentle_number (gentle_piece k top law i l).end c e
 
--- ---- n knots of a list are reached
+-- ---- a list of knots
 
-module _ (ks : List Knot) (some : fewest ≤ length ks) (ok : lawful ks ≡ true) (x : ℤ) where
+module _ (ks : List Knot) (some : fewest ≤ length ks) (ok : lawful ks ≡ true) where
   abbrev k : ℕ → Knot
   k = knot_at ks
 
   abbrev top : ℕ
   top = length ks - 1
 
-  law : LawfulTable (knot_at ks) top
+  law : LawfulTable k top
   law = lawful_list ks ok some
 
-  -- none
-  pub none_reached : (kind : Kind) (n : ℕ) → Reached ks x n → n ≡ 0 → (k 0).y ≡ table_value kind (knot_at ks) top x
-  none_reached kind n r e =
-      sym (value_first kind (knot_at ks) top law.knots x
-      (subst (λ i. le_z (k i).x x ≡ false) e (r.short (omega arith))))
+  -- the stored slopes at the ends of piece i are at most three secants
+  module _ (i : ℕ) (inside : i + 1 < length ks) where
+    pub gentle_start : (c : ℕ) → pos c ≡ stored_at ks i → Gentle (k i) (k (i + 1)) c
+    gentle_start c e =
+        subst (λ j. Gentle (k i) (k j) c) (sym (add-one i)) (start_gentle k top law i c (omega arith) e)
 
-  -- all
-  pub all_reached : (kind : Kind) (n : ℕ) → Reached ks x n → n ≡ length ks → (k (n - 1)).y ≡ table_value kind (knot_at ks) top x
-  all_reached kind n r e =
-      let last : n - 1 ≡ top = ap (λ m. m - 1) e in
-      ap (λ i. (k i).y) last
-      ∙ sym (value_last kind (knot_at ks) top law x (subst (λ i. le_z (k i).x x ≡ true) last (r.from (omega arith))))
+    pub gentle_end : (c : ℕ) → pos c ≡ stored_at ks (i + 1) → Gentle (k i) (k (i + 1)) c
+    gentle_end c e =
+        subst (λ j. Gentle (k i) (k j) c) (sym (add-one i))
+        (end_gentle k top law i c (omega arith) (subst (λ j. pos c ≡ stored_at ks j) (add-one i) e))
 
-  -- some: x lies in the piece before knot n
-  module _ (n : ℕ) (r : Reached ks x n) (begun : 0 < n) (short : n < length ks) where
-    next : suc (n - 1) ≡ n
-    next = omega arith
+  -- n knots are reached
+  module _ (x : ℤ) (n : ℕ) (r : Reached ks x n) where
+    -- none
+    pub none_reached : (kind : Kind) → n ≡ 0 → (k 0).y ≡ table_value kind k top x
+    none_reached kind e =
+        sym (value_first kind k top law.knots x (subst (λ i. le_z (k i).x x ≡ false) e (r.short (omega arith))))
 
-    inner : n - 1 < top
-    inner = omega arith
+    -- all
+    pub all_reached : (kind : Kind) → n ≡ length ks → (k (n - 1)).y ≡ table_value kind k top x
+    all_reached kind e =
+        let last : n - 1 ≡ top = ap (λ m. m - 1) e in
+        ap (λ i. (k i).y) last
+        ∙ sym (value_last kind k top law x (subst (λ i. le_z (k i).x x ≡ true) last (r.from (omega arith))))
 
-    pub reached_piece : Neighbours (k (n - 1)) (k n)
-    reached_piece = piece_before ks ok n begun short
+    -- some: x lies in the piece before knot n
+    module _ (begun : 0 < n) (short : n < length ks) where
+      next : n ≡ n - 1 + 1
+      next = omega arith
 
-    pub reached_from : (k (n - 1)).x ≤ℤ x
-    reached_from = leZ_true (k (n - 1)).x x (r.from begun)
+      pub reached_from : (k (n - 1)).x ≤ℤ x
+      reached_from = leZ_true (k (n - 1)).x x (r.from begun)
 
-    pub reached_short : x ≤ℤ (k n).x
-    reached_short = leZ_false (k n).x x (r.short short)
-
-    module _ (slopes : List ℕ) (steep : Slopes ks slopes) where
-      pub reached_start : Gentle (k (n - 1)) (k n) (get_or slopes (n - 1) 0)
-      reached_start =
-          subst (λ i. Gentle (k (n - 1)) (k i) (get_or slopes (n - 1) 0)) next
-          (start_gentle k top law (n - 1) (get_or slopes (n - 1) 0) inner (steep (n - 1) (omega arith)))
-
-      pub reached_end : Gentle (k (n - 1)) (k n) (get_or slopes n 0)
-      reached_end =
-          subst (λ i. Gentle (k (n - 1)) (k i) (get_or slopes i 0)) next
-          (end_gentle k top law (n - 1) (get_or slopes (suc (n - 1)) 0) inner (steep (suc (n - 1)) (omega arith)))
+      pub reached_short : x ≤ℤ (k (n - 1 + 1)).x
+      reached_short = subst (λ i. x ≤ℤ (k i).x) next (leZ_false (k n).x x (r.short short))
 
       pub reached_value : (kind : Kind)
-          → piece_value kind (k (n - 1)) (k n) (pos (get_or slopes (n - 1) 0)) (pos (get_or slopes n 0)) x
-          ≡ table_value kind (knot_at ks) top x
+          → piece_value kind (k (n - 1)) (k (n - 1 + 1)) (stored_at ks (n - 1)) (stored_at ks (n - 1 + 1)) x
+          ≡ table_value kind k top x
       reached_value kind =
-          ap₂ (λ M M'. piece_value kind (k (n - 1)) (k n) M M' x) (steep (n - 1) (omega arith)) (steep n short)
-          ∙ sym (value_reached kind (knot_at ks) top law.knots (n - 1) x (omega arith) (r.from begun) beyond
-          ∙ subst (λ i. value_from kind (knot_at ks) top (n - 1) x
-          ≡ piece_value kind (k (n - 1)) (k i) (stored (slope (knot_at ks) top (n - 1))) (stored (slope (knot_at ks) top i)) x) next
-          (piece_is k top law kind (n - 1) x inner))
+          ap (λ i. piece_value kind (k (n - 1)) (k i) (stored_at ks (n - 1)) (stored_at ks i) x) (add-one (n - 1))
+          ∙ sym (piece_is k top law kind (n - 1) x (omega arith))
+          ∙ sym (value_reached kind k top law.knots (n - 1) x (omega arith) (r.from begun) beyond)
         where
           beyond : n - 1 < top → le_z (k (suc (n - 1))).x x ≡ false
-          beyond l = subst (λ i. le_z (k i).x x ≡ false) (sym next) (r.short short)
+          beyond l = subst (λ i. le_z (k i).x x ≡ false) (next ∙ add-one (n - 1)) (r.short short)
 
 -- ---- the rise
 

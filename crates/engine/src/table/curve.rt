@@ -1,8 +1,10 @@
 //! A table as a curve.
 
-ghost use Rattle.std.specs.Prelude.{◌≡◌};
-ghost use Rattle.engine.specs.Edits.{curve_of};
+ghost use Rattle.std.specs.Prelude.{◌≡◌, ◌+◌, ◌<◌, length, pos};
+ghost use Rattle.engine.specs.Edits.{curve_of, knots_of};
+ghost use Rattle.engine.specs.Knots.{knot_at};
 ghost use Rattle.engine.specs.TableRules.{array_rules};
+ghost use Rattle.engine.specs.Tables.{stored_at};
 
 use super::KnotTable;
 use super::piece::SlopedPiece;
@@ -54,7 +56,17 @@ impl KnotTable {
         if n == ks.len() {
             return ks[n - 1].y;
         }
-        let piece = SlopedPiece::new(self.list.piece(n - 1), self.slopes[n - 1], self.slopes[n]);
-        piece.value(self.kind, x)
+        self.piece(n - 1).value(self.kind, x)
+    }
+
+    // The piece from knot i to the next, with its stored slopes.
+    fn piece(&self, i: usize) -> SlopedPiece
+        requires { i + 1 < length (knots_of self.now) }
+        ensures from { result.piece.from ≡ knot_at (knots_of self.now) i }
+        ensures to { result.piece.to ≡ knot_at (knots_of self.now) (i + 1) }
+        ensures start { pos result.start ≡ stored_at (knots_of self.now) i }
+        ensures end { pos result.end ≡ stored_at (knots_of self.now) (i + 1) }
+    {
+        SlopedPiece::new(self.list.piece(i), self.slopes[i], self.slopes[i + 1])
     }
 }
