@@ -36,9 +36,8 @@ impl<C: Curve> Curve for Clamp<C> {
     ghost R = { λ s. (clamp s.band.lo s.band.hi (means C.Curve s.below)).R };
 
     ghost keeps = { λ s.
-        let b = s.band in
-        let ends = band_ends b in
-        clamp_rules b.lo b.hi _ ends.0 ends.1 b.order (C.Curve.keeps s.below) };
+        let ends = band_ends s.band in
+        clamp_rules _ _ _ ends.0 ends.1 s.band.order (C.Curve.keeps s.below) };
 
     fn value(&self, x: i32) -> i32 {
         self.band.hold(self.below.value(x))
