@@ -3,7 +3,7 @@ use Rattle.std.proofs.Common.{◌≡◌, ℕ, ◌+◌, ◌-◌, ◌<◌, ◌≤�
 use lib.Signed.{lt_z}
 use Rattle.std.specs.List.{splice}
 use Rattle.std.proofs.lemmas.Int.{ints}
-use Rattle.std.proofs.lemmas.Bool.{and_from, and_parts, lt-ltb, le-ltb, ltb-false}
+use Rattle.std.proofs.lemmas.Bool.{and_from, and_parts, lt-ltb, le-ltb}
 use Rattle.engine.specs.Coordinates.{coordinate}
 use Rattle.engine.specs.Refusals.{alone, not_coordinate, knot_count, out_of_order, too_far_apart, no_knot}
 use Rattle.engine.specs.declared.knot.Knot.{Knot}
@@ -101,11 +101,6 @@ module _ (ks : List Knot) (x : ℤ) (start end : ℕ) (s : Slotted ks x start en
           neighbours_with rightward ks start end inside (parts ks ok).1 (knot x y) (with_knot x y ks) (s.with_is y)
           ∙ and_from _ _ (s.left y) (s.right y)
 
-  put_few : (y : ℤ) → put_refusal x y ks ≡ None → length (with_knot x y ks) ≤ most
-  put_few y h =
-      let a = passes (coordinate x && coordinate y) (alone not_coordinate) _ h in
-      ltb-false most (length (with_knot x y ks)) (unrefused (ltb most (length (with_knot x y ks))) (alone knot_count) _ a.1).0
-
   drop_lawful : drop_refusal x ks ≡ None → lawful (without_knot x ks) ≡ true
   drop_lawful h =
       let a = passes (has_knot x ks) (alone no_knot) _ h in
@@ -128,31 +123,12 @@ module _ (ks : List Knot) (x : ℤ) (start end : ℕ) (s : Slotted ks x start en
       upward_through : (a b c : Knot) → upward a b ≡ true → upward b c ≡ true → upward a c ≡ true
       upward_through a b c h k = sym (omega (arith, ints))
 
-  drop_some : drop_refusal x ks ≡ None → fewest ≤ length (without_knot x ks)
-  drop_some h =
-      let a = passes (has_knot x ks) (alone no_knot) _ h in
-      ltb-false (length (without_knot x ks)) fewest
-      (unrefused (ltb (length (without_knot x ks)) fewest) (alone knot_count) _ a.1).0
-
   -- the same of the list cut open and joined
   module _ (y : ℤ) (none : put_refusal x y ks ≡ None) where
-    pub put_enough : fewest ≤ length ks → fewest ≤ length (splice ks start end (knot x y ∷ []))
-    put_enough some =
-        omega (arith, splice_length ks (knot x y ∷ []) start end inside, some, s.narrow, s.order, s.inside)
-
-    pub put_not_many : length (splice ks start end (knot x y ∷ [])) ≤ most
-    put_not_many = subst (λ l. length l ≤ most) (s.with_is y) (put_few y none)
-
     pub put_ok : lawful (splice ks start end (knot x y ∷ [])) ≡ true
     put_ok = subst (λ l. lawful l ≡ true) (s.with_is y) (put_lawful y none)
 
   module _ (none : drop_refusal x ks ≡ None) where
-    pub drop_enough : fewest ≤ length (splice ks start end [])
-    drop_enough = subst (λ l. fewest ≤ length l) s.without_is (drop_some none)
-
-    pub drop_not_many : length ks ≤ most → length (splice ks start end []) ≤ most
-    drop_not_many few = omega (arith, splice_length ks [] start end inside, few, s.order, s.inside)
-
     pub drop_ok : lawful (splice ks start end []) ≡ true
     drop_ok = subst (λ l. lawful l ≡ true) s.without_is (drop_lawful none)
 

@@ -1,5 +1,5 @@
 -- A table's value by the knots that its argument has reached, and its rise by its pieces, as the code finds them.
-use Rattle.std.proofs.Common.{◌≡◌, ℕ, suc, ◌+◌, ◌-◌, ◌*◌, ◌<◌, ◌≤◌, min, max, true, false, eqb, List, length, get_or, ℤ, pos, ◌≤ℤ◌, sym, refl, ap, ◌∙◌, subst, ap₂, arith}
+use Rattle.std.proofs.Common.{◌≡◌, ℕ, suc, ◌+◌, ◌-◌, ◌*◌, ◌<◌, ◌≤◌, min, max, true, false, eqb, List, length, ℤ, pos, ◌≤ℤ◌, sym, refl, ap, ◌∙◌, subst, ap₂, arith}
 use lib.Signed.{le_z}
 use borrow.Author.Differences.{ints}
 use Rattle.std.proofs.lemmas.Bool.{ne_eqb}
@@ -10,16 +10,16 @@ use Rattle.engine.specs.Pieces.{width, height}
 use Rattle.engine.specs.Places.{LawfulTable}
 use Rattle.engine.specs.declared.knot.Knot.{Knot}
 use Rattle.engine.specs.Lines.{line_piece}
-use Rattle.engine.specs.Orders.{leZ_true, leZ_false}
+use Rattle.engine.specs.Orders.{leZ_false}
 use Rattle.engine.specs.Drafts.{Reached}
 use Rattle.engine.specs.Knots.{fewest, knot_at, lawful}
-use Rattle.engine.specs.Neighbours.{Gentle, Neighbours, piece_value, piece_rise}
+use Rattle.engine.specs.Neighbours.{Gentle, piece_value, piece_rise}
 use Rattle.engine.specs.Tables.{stored_at, slope, stored, value_from, greatest, table_value, table_rise, secant}
 use Rattle.engine.specs.declared.kind.Kind.{Kind}
 use Rattle.engine.specs.declared.kind.Kind.TheVariants.{Step, Line, Cubic}
 use Rattle.engine.specs.CubicPieces.{Slope}
 use Rattle.engine.specs.CubicValues.{stored_of, stored_gentle}
-use Rattle.engine.specs.Lawfuls.{lawful_list, piece_before}
+use Rattle.engine.specs.Lawfuls.{lawful_list}
 use Rattle.engine.proofs.Reached.{value_first, value_last, value_reached}
 use Rattle.engine.specs.Slopes.{gentle_piece}
 use Rattle.engine.specs.TableRules.{kind_rules}
@@ -94,9 +94,6 @@ module _ (ks : List Knot) (some : fewest ≤ length ks) (ok : lawful ks ≡ true
     module _ (begun : 0 < n) (short : n < length ks) where
       next : n ≡ n - 1 + 1
       next = omega arith
-
-      pub reached_from : (k (n - 1)).x ≤ℤ x
-      reached_from = leZ_true (k (n - 1)).x x (r.from begun)
 
       pub reached_short : x ≤ℤ (k (n - 1 + 1)).x
       reached_short = subst (λ i. x ≤ℤ (k i).x) next (leZ_false (k n).x x (r.short short))

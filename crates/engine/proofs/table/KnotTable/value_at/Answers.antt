@@ -1,11 +1,11 @@
-use Rattle.std.proofs.Common.{◌≡◌, ◌+◌, ◌-◌, ◌<◌, ◌≤ℤ◌, length, sym, ap, ap₂, ◌∙◌, subst, arith, w32, SFits, rules, pos}
+use Rattle.std.proofs.Common.{◌+◌, ◌-◌, ◌<◌, ◌≤ℤ◌, length, sym, ap, ap₂, ◌∙◌, subst, arith, w32, SFits, rules, pos}
 use Rattle.std.proofs.lemmas.Int.{to_z-of_z}
 use Rattle.engine.specs.declared.knot.Knot.{Knot}
 use Rattle.engine.specs.Knots.{knot_at}
 use Rattle.engine.specs.Lists.{listed}
 use Rattle.engine.specs.Neighbours.{piece_value}
 use Rattle.engine.proofs.Lists.{enough}
-use Rattle.engine.proofs.TableValues.{none_reached, all_reached, reached_from, reached_short, reached_value}
+use Rattle.engine.proofs.TableValues.{none_reached, all_reached, reached_short, reached_value}
 use Rattle.engine.proofs.table.KnotTable.value_at.Goals as goal
 
 pub returns-then-n-eq0 : goal.returns-then-n-eq0
@@ -38,7 +38,7 @@ value-requires-clause-to c =
     let ks = listed t.list in
     let reached = simp to_z-of_z at c.reached-n.ensures in
     let short : c.reached-n.result < length ks =
-        omega (arith, c.if-n-ks.false, reached.inside, ap length c.as_slice-ks.ensures) in
+    omega (arith, c.if-n-ks.false, reached.inside, ap length c.as_slice-ks.ensures) in
     simp to_z-of_z
     (subst (λ (q : Knot). c.args.x ≤ℤ q.x) (sym c.piece.ensures.to)
     (reached_short ks (enough t.list) t.list.ok c.args.x c.reached-n.result reached (omega (arith, c.if-n-eq0.false))
@@ -51,7 +51,7 @@ returns c =
     let ks = listed t.list in
     let reached = simp to_z-of_z at c.reached-n.ensures in
     let short : c.reached-n.result < length ks =
-        omega (arith, c.if-n-ks.false, reached.inside, ap length c.as_slice-ks.ensures) in
+    omega (arith, c.if-n-ks.false, reached.inside, ap length c.as_slice-ks.ensures) in
     let r_fits : SFits w32 c.value.result = search rules in
     let told = simp to_z-of_z at c.value.ensures in
     simp to_z-of_z

@@ -1,4 +1,4 @@
-use Rattle.std.proofs.Common.{◌+◌, ◌*◌, ◌/◌, ◌≤◌, pos, ◌+ℤ◌, ◌∙◌, refl, sym, subst}
+use Rattle.std.proofs.Common.{◌+◌, ◌*◌, ◌/◌, ◌≤◌, pos, ◌+ℤ◌, refl, sym, subst}
 use Rattle.engine.proofs.PieceBounds.{line_of, line_climb_is, line_climb_small}
 use Rattle.engine.proofs.table.piece.SlopedPiece.climb.Goals as goal
 
