@@ -7,36 +7,34 @@
 
 use answers::{Answer, answer_call};
 use engine::table::KnotTable;
-use script::{Unread, read_call};
-use std::alloc::{AllocError, Global};
+use error::CallError;
+use script::read_call;
+use std::alloc::Global;
 use std::io;
 
 mod answers;
+mod error;
 mod script;
 
 fn main(rt: HostRuntime) -> anyhow::Result<()> {
-    run(&rt)
-}
-
-fn run(rt: &HostRuntime) -> anyhow::Result<()> {
     let text = io::read_to_string(rt.alloc(), rt.stdin())?;
     let mut table = KnotTable::new();
     for line in text.as_str().lines() {
         if line.starts_with('#') {
             println!(rt; "{line}")?;
-        } else {
-            let answer = answer_line(rt.alloc(), &mut table, line)?;
-            println!(rt; "{answer}")?;
+            continue;
+        }
+        match answer_line(rt.alloc(), &mut table, line) {
+            Ok(answer) => println!(rt; "{answer}")?,
+            Err(CallError::NoMemory(full)) => return Err(full.into()),
+            Err(error) => println!(rt; "{error}")?,
         }
     }
     Ok(())
 }
 
 // The answer to a line of the script.
-fn answer_line(heap: Global, table: &mut KnotTable, line: &str) -> Result<Answer, AllocError> {
-    match read_call(heap, line) {
-        Ok(call) => answer_call(heap, table, call),
-        Err(Unread::NoCall) => Ok(Answer::NoCall),
-        Err(Unread::NoMemory(error)) => Err(error),
-    }
+fn answer_line(heap: Global, table: &mut KnotTable, line: &str) -> Result<Answer, CallError> {
+    let call = read_call(heap, line)?;
+    answer_call(heap, table, call)
 }

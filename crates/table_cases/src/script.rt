@@ -1,10 +1,9 @@
 //! The calls in the text of a script.
 
-ghost use Rattle.std.specs.Prelude.{◌≤◌, pos, ◌+ℤ◌, ◌≤ℤ◌};
-ghost use Rattle.std.specs.Option.{SomeIff};
-
+use crate::error::CallError;
 use engine::knot::Knot;
-use std::alloc::{AllocError, AllocFailed, Global};
+use std::alloc::Global;
+use std::num::NonZeroU32;
 use std::str::SplitWhitespace;
 
 /// A call on a knot table, as a line of the script writes it.
@@ -33,107 +32,62 @@ pub(crate) enum Call {
 pub(crate) struct Readings {
     pub(crate) first: i32,
     pub(crate) last: i32,
-    pub(crate) step: u32,
-    ghost forward: { 1 ≤ step },
-}
-
-impl Readings {
-    /// The reading after this one, where it is not above the last.
-    pub(crate) fn after(self, reading: i32) -> Option<i32>
-        ensures { SomeIff result ((reading +ℤ pos self.step) ≤ℤ self.last) (reading +ℤ pos self.step) }
-    {
-        let next = i64::from(reading) + i64::from(self.step);
-        if next <= i64::from(self.last) {
-            Some(next as i32)
-        } else {
-            None
-        }
-    }
-}
-
-/// Why a line was not read.
-#[derive(Drop)]
-pub(crate) enum Unread {
-    /// The line is no call.
-    NoCall,
-    /// The knots found no memory.
-    NoMemory(AllocError),
-}
-
-impl<T: Drop> From<AllocFailed<T>> for Unread {
-    fn from(refused: AllocFailed<T>) -> Unread {
-        Unread::NoMemory(refused.into())
-    }
+    pub(crate) step: NonZeroU32,
 }
 
 /// The call that a line has, and nothing after it.
-pub(crate) fn read_call(heap: Global, line: &str) -> Result<Call, Unread> {
+pub(crate) fn read_call(heap: Global, line: &str) -> Result<Call, CallError> {
     let mut words = line.split_whitespace();
     let call = next_call(heap, &mut words)?;
-    match words.next() {
-        None => Ok(call),
-        Some(_) => Err(Unread::NoCall),
+    if words.next().is_some() {
+        return Err(CallError::NoCall);
     }
+    Ok(call)
 }
 
-fn next_call(heap: Global, words: &mut SplitWhitespace<'_>) -> Result<Call, Unread> {
-    let Some(name) = words.next() else {
-        return Err(Unread::NoCall);
-    };
-    match name {
+fn next_call(heap: Global, words: &mut SplitWhitespace<'_>) -> Result<Call, CallError> {
+    match words.next().ok_or(CallError::NoCall)? {
         "new" => Ok(Call::New),
-        "load" => Ok(Call::Load(next_knots(heap, words)?)),
-        "put" => Ok(Call::Put(next_knot(words)?)),
-        "drop" => Ok(Call::Drop(next_number(words)?)),
-        "kind" => Ok(Call::Kind(next_number(words)?)),
+        "load" => next_knots(heap, words).map(Call::Load),
+        "put" => next_knot(words).map(Call::Put),
+        "drop" => next_number(words).map(Call::Drop),
+        "kind" => next_number(words).map(Call::Kind),
         "knots" => Ok(Call::Knots),
         "tell" => Ok(Call::Tell),
-        "values" => Ok(Call::Values(next_readings(words)?)),
-        _ => Err(Unread::NoCall),
+        "values" => next_readings(words).map(Call::Values),
+        _ => Err(CallError::NoCall),
     }
 }
 
 // How many knots, and then as many.
-fn next_knots(heap: Global, words: &mut SplitWhitespace<'_>) -> Result<Vec<Knot>, Unread> {
+fn next_knots(heap: Global, words: &mut SplitWhitespace<'_>) -> Result<Vec<Knot>, CallError> {
     let count = next_count(words)?;
-    let mut knots = Vec::new(heap);
-    for _ in 0..count {
-        knots.push(next_knot(words)?)?;
-    }
-    Ok(knots)
+    (0..count).map(|_| next_knot(words)).try_collect(heap)
 }
 
-fn next_knot(words: &mut SplitWhitespace<'_>) -> Result<Knot, Unread> {
+fn next_knot(words: &mut SplitWhitespace<'_>) -> Result<Knot, CallError> {
     Ok(Knot {
         x: next_number(words)?,
         y: next_number(words)?,
     })
 }
 
-fn next_readings(words: &mut SplitWhitespace<'_>) -> Result<Readings, Unread> {
-    let first = next_number(words)?;
-    let last = next_number(words)?;
-    let step = next_count(words)?;
-    if step == 0 {
-        return Err(Unread::NoCall);
-    }
-    Ok(Readings { first, last, step })
+fn next_readings(words: &mut SplitWhitespace<'_>) -> Result<Readings, CallError> {
+    Ok(Readings {
+        first: next_number(words)?,
+        last: next_number(words)?,
+        step: NonZeroU32::new(next_count(words)?).ok_or(CallError::NoCall)?,
+    })
 }
 
 // A number that is not below 0.
-fn next_count(words: &mut SplitWhitespace<'_>) -> Result<u32, Unread> {
-    match u32::try_from(next_number(words)?) {
-        Ok(count) => Ok(count),
-        Err(_) => Err(Unread::NoCall),
-    }
+fn next_count(words: &mut SplitWhitespace<'_>) -> Result<u32, CallError> {
+    next_number(words)?
+        .try_into()
+        .map_err(|_| CallError::NoCall)
 }
 
-fn next_number(words: &mut SplitWhitespace<'_>) -> Result<i32, Unread> {
-    let Some(word) = words.next() else {
-        return Err(Unread::NoCall);
-    };
-    match word.parse::<i32>() {
-        Ok(number) => Ok(number),
-        Err(_) => Err(Unread::NoCall),
-    }
+fn next_number(words: &mut SplitWhitespace<'_>) -> Result<i32, CallError> {
+    let word = words.next().ok_or(CallError::NoCall)?;
+    word.parse().map_err(|_| CallError::NoCall)
 }
