@@ -14,16 +14,9 @@ mod tests {
     use engine::coordinate::is_coordinate;
     use engine::curve::{Bare, Curve};
     use engine::layer::{Chain, Clamp, Offset};
+    use engine::refusal::Refusal;
     use engine::root::Root;
     use std::test::Fail;
-
-    // The refusal of the band from a to b, or 0.
-    fn band_refusal(a: i32, b: i32) -> u8 {
-        match Band::new(a, b) {
-            Ok(_) => 0,
-            Err(refusal) => refusal.number(),
-        }
-    }
 
     #[test]
     fn coordinates_end_at_both_ends(rt: HostRuntime) {
@@ -40,12 +33,20 @@ mod tests {
 
     #[test]
     fn bands_refuse_in_order(rt: HostRuntime) {
-        assert_eq!(rt; band_refusal(-8192, 8191), 0);
-        assert_eq!(rt; band_refusal(7, 7), 0);
-        assert_eq!(rt; band_refusal(-8193, 0), 1);
-        assert_eq!(rt; band_refusal(0, 8192), 1);
-        assert_eq!(rt; band_refusal(8192, -8193), 1);
-        assert_eq!(rt; band_refusal(7, 6), 11);
+        for (a, b, number) in [
+            (-8192, 8191, None),
+            (7, 7, None),
+            (-8193, 0, Some(1)),
+            (0, 8192, Some(1)),
+            (8192, -8193, Some(1)),
+            (7, 6, Some(11)),
+        ] {
+            assert_eq!(rt;
+                Band::new(a, b).err().map(Refusal::number),
+                number,
+                "{a}..{b}"
+            );
+        }
     }
 
     #[test]
