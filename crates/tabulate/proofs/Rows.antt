@@ -1,30 +1,36 @@
--- The rows of a table: which there are, and their readings.
-use Rattle.std.proofs.Common.{ℕ, suc, ◌*◌, ◌/◌, ◌<◌, ◌≤◌, ℤ, ◌-ℤ◌, nat_abs, ◌≤ℤ◌, mul-le-mul_right, lt_of_mul-lt-mul_right, arith}
-use borrow.Author.Differences.{ints}
-use Rattle.tabulate.specs.Tables.{reading_at, row_count}
-use Rattle.tabulate.specs.declared.table.Row.{Row}
+-- The readings that a table has.
+use Rattle.std.proofs.Common.{ℕ, ℤ, ◌*◌, ◌/◌, ◌<◌, ◌≤◌, ◌-ℤ◌, ◌≤ℤ◌, unsigned_abs, arith}
+use Rattle.std.proofs.Math.Nat.{le-div_iff_mul-le}
+use Rattle.std.proofs.lemmas.Int.{ints}
+use Rattle.engine.specs.Coordinates.{Coordinate}
+use Rattle.engine.specs.Holds.{band_ends}
+use Rattle.tabulate.specs.Readings.{reading_at, reading_count, span_of}
+use Rattle.tabulate.specs.declared.readings.Readings.{Readings}
 
--- a row by its parts
-unfoldable pub pair : ℤ → ℤ → Row
-pair x v = record { reading = x; value = v }
+-- reading i, and how many there are
+abbrev pub at : Readings → ℕ → ℤ
+at r i = reading_at (span_of r) i
 
--- i steps of s do not pass w exactly where i is at most w / s
-reach : (w s i : ℕ) → i < suc (w / s) → i * s ≤ w
-reach w s i h = let k : i ≤ w / s = omega arith in omega (arith, mul-le-mul_right s k)
+abbrev pub count : Readings → ℕ
+count r = reading_count (span_of r)
 
-reached : (w s i : ℕ) → 1 ≤ s → i * s ≤ w → i < suc (w / s)
-reached w s i p h = lt_of_mul-lt-mul_right s (omega arith)
+module _ (r : Readings) where
+  some : 0 < r.step
+  some = omega (arith, r.some)
 
--- the way from the first reading to row i is at most the span's width
-pub way_fits : (first last : ℤ) (step i : ℕ) → i < row_count first last step → i * step ≤ nat_abs (last -ℤ first)
-way_fits first last step i h = reach (nat_abs (last -ℤ first)) step i h
+  -- there is a reading i exactly where i steps do not pass the last
+  pub reading_inside : (i : ℕ) → i < count r → at r i ≤ℤ r.band.hi
+  reading_inside i h =
+      let k : i ≤ unsigned_abs (r.band.hi -ℤ r.band.lo) / r.step = omega arith in
+      omega (arith, ints, r.band.order, (le-div_iff_mul-le some).0 k)
 
--- a row there is has a reading not above the last
-pub reading_inside : (first last : ℤ) (step i : ℕ) → first ≤ℤ last → i < row_count first last step
-    → reading_at first step i ≤ℤ last
-reading_inside first last step i o h = let w = way_fits first last step i h in omega (arith, ints)
+  pub reading_there : (i : ℕ) → at r i ≤ℤ r.band.hi → i < count r
+  reading_there i h =
+      let k : i * r.step ≤ unsigned_abs (r.band.hi -ℤ r.band.lo) = omega (arith, ints, r.band.order) in
+      omega (arith, (le-div_iff_mul-le some).1 k)
 
--- and a reading not above the last has a row
-pub reading_there : (first last : ℤ) (step i : ℕ) → 1 ≤ step → first ≤ℤ last → reading_at first step i ≤ℤ last
-    → i < row_count first last step
-reading_there first last step i p o h = reached (nat_abs (last -ℤ first)) step i p (omega (arith, ints))
+  pub reading_fits : (i : ℕ) → i < count r → Coordinate (at r i)
+  reading_fits i h =
+      let ends = band_ends r.band in
+      let last = reading_inside i h in
+      record { low = omega (arith, ints); high = omega (arith, ints) }

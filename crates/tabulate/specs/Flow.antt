@@ -1,5 +1,5 @@
 -- The flow of a nozzle row: its settings, its curve and the law of its table.
-use Rattle.std.specs.Prelude.{◌≡◌, ℕ, ℤ, pos, ◌≤ℤ◌, Some, Option, unsigned_abs}
+use Rattle.std.specs.Prelude.{◌≡◌, ℕ, ℤ, ◌≤ℤ◌, Some, Option}
 use Rattle.std.specs.Option.{option_or}
 use Rattle.engine.specs.Coordinates.{held_shift}
 use Rattle.engine.specs.Curves.{Meaning, bare, chain, offset, clamp}
@@ -12,7 +12,8 @@ use Rattle.engine.specs.declared.root.Root.{Root}
 use Rattle.engine.specs.declared.layer.chain.Chain.{Chain}
 use Rattle.engine.specs.declared.layer.offset.Offset.{Offset}
 use Rattle.engine.specs.declared.layer.clamp.Clamp.{Clamp}
-use Rattle.tabulate.specs.Tables.{step_refusal, count_of, row_of, Faithful}
+use Rattle.tabulate.specs.Readings.{span_of, span_refusal}
+use Rattle.tabulate.specs.Tables.{count_of, row_of, Faithful}
 use Rattle.tabulate.specs.declared.nozzle.Settings.{Settings}
 use Rattle.tabulate.specs.declared.table.Row.{Row}
 use Rattle.tabulate.specs.declared.table.Table.{Table}
@@ -42,10 +43,9 @@ pub record Piled (zero trim : ℤ) (limit : Band) (c : FlowCurve) : Type 0 where
 
 -- ---- the answer
 
--- the limit is a band, then the span is one, then the step is lawful
+-- the limit is a band, then the span is lawful
 abbrev pub settings_refusal : Settings → Option Told
-settings_refusal s =
-    option_or (band_refusal s.low s.high) (option_or (band_refusal s.first s.last) (step_refusal s.step))
+settings_refusal s = option_or (band_refusal s.low s.high) (span_refusal s.span)
 
 -- the table that the settings ask for, number by number
 pub record FlowTable (s : Settings) (t : Table FlowCurve) : Type 0 where
@@ -53,9 +53,7 @@ pub record FlowTable (s : Settings) (t : Table FlowCurve) : Type 0 where
   pub trim_is : t.curve.below.shift ≡ held_shift s.trim
   pub low_is : t.curve.band.lo ≡ s.low
   pub high_is : t.curve.band.hi ≡ s.high
-  pub first_is : t.span.lo ≡ s.first
-  pub last_is : t.span.hi ≡ s.last
-  pub step_is : pos t.step ≡ s.step
+  pub span_is : span_of t.readings ≡ s.span
 
 -- ---- the law
 
@@ -66,7 +64,6 @@ flow_row t = row_of (flow_of t.curve) t
 -- The rows speak for the exact flow, with the count, the rise and the radius that the table tells, and have no flow that
 -- the valves do not take.
 pub record FlowLaw (s : Settings) (t : Table FlowCurve) : Type 0 where
-  pub faithful : Faithful (asked_flow s).E (flow_of t.curve).S (flow_of t.curve).R s.first s.last
-      (unsigned_abs s.step) (count_of t) (flow_row t)
+  pub faithful : Faithful (asked_flow s).E (flow_of t.curve).S (flow_of t.curve).R s.span (count_of t) (flow_row t)
   pub not_below : (i : ℕ) (r : Row) → flow_row t i ≡ Some r → s.low ≤ℤ r.value
   pub not_above : (i : ℕ) (r : Row) → flow_row t i ≡ Some r → r.value ≤ℤ s.high

@@ -1,17 +1,15 @@
 -- The reflectance of a sorting head: its curve and the law of its table.
-use Rattle.std.specs.Prelude.{◌≡◌, ℕ, List, [], ◌∷◌, pos, neg_ℤ, Option, unsigned_abs}
-use Rattle.std.specs.Option.{option_or}
-use Rattle.engine.specs.Bands.{band_refusal}
+use Rattle.std.specs.Prelude.{◌≡◌, ℕ, List, [], ◌∷◌, pos, neg_ℤ, Option}
 use Rattle.engine.specs.Curves.{Meaning}
-use Rattle.engine.specs.Refusals.{Told}
 use Rattle.engine.specs.declared.knot.Knot.{Knot}
 use Rattle.engine.specs.Edits.{curve_of, knots_of}
 use Rattle.engine.specs.Knots.{knot}
 use Rattle.engine.specs.Tables.{table_curve}
 use Rattle.engine.specs.declared.kind.Kind.TheVariants.{Cubic}
 use Rattle.engine.specs.declared.table.KnotTable.{KnotTable}
-use Rattle.tabulate.specs.Tables.{step_refusal, count_of, row_of, Faithful}
-use Rattle.tabulate.specs.declared.head.Span.{Span}
+use Rattle.tabulate.specs.Readings.{span_of}
+use Rattle.tabulate.specs.Tables.{count_of, row_of, Faithful}
+use Rattle.tabulate.specs.declared.span.Span.{Span}
 use Rattle.tabulate.specs.declared.table.Row.{Row}
 use Rattle.tabulate.specs.declared.table.Table.{Table}
 
@@ -40,17 +38,11 @@ reflectance = table_curve Cubic head_knots
 
 -- ---- the answer
 
--- the span is a band, then the step is lawful
-abbrev pub span_refusal : Span → Option Told
-span_refusal s = option_or (band_refusal s.first s.last) (step_refusal s.step)
-
 -- the table of the head's curve at these readings
 pub record ReflectanceTable (s : Span) (t : Table KnotTable) : Type 0 where
   pub knots_are : knots_of t.curve ≡ head_knots
   pub kind_is : t.curve.kind ≡ Cubic
-  pub first_is : t.span.lo ≡ s.first
-  pub last_is : t.span.hi ≡ s.last
-  pub step_is : pos t.step ≡ s.step
+  pub span_is : span_of t.readings ≡ s
 
 -- ---- the law
 
@@ -60,6 +52,4 @@ reflectance_row t = row_of (curve_of t.curve) t
 
 -- the rows speak for the exact reflectance, with its rise and its radius
 abbrev pub ReflectanceLaw : Span → Table KnotTable → Type 0
-ReflectanceLaw s t =
-    Faithful reflectance.E reflectance.S reflectance.R s.first s.last (unsigned_abs s.step) (count_of t)
-    (reflectance_row t)
+ReflectanceLaw s t = Faithful reflectance.E reflectance.S reflectance.R s (count_of t) (reflectance_row t)

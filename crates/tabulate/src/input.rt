@@ -1,36 +1,48 @@
 //! The settings in the text of the input.
 
 use crate::nozzle::Settings;
-use std::str::SplitWhitespace;
+use crate::span::Span;
+use std::error::Error;
+use std::fmt;
+use std::str::{FromStr, SplitWhitespace};
 
-// What the input has to be.
-const EXPECTED: &str =
-    "expected seven whole numbers of 32 bits: ZERO TRIM LOW HIGH FIRST LAST STEP";
+/// The text is not seven whole numbers of 32 bits.
+#[derive(Clone, Copy, PartialEq, Eq, Debug)]
+pub struct InputError;
 
-/// The seven numbers of the text, or what is wrong with it.
-pub(crate) fn read_settings(text: &str) -> Result<Settings, &'static str> {
-    let mut words = text.split_whitespace();
-    let settings = Settings {
-        zero: next_number(&mut words)?,
-        trim: next_number(&mut words)?,
-        low: next_number(&mut words)?,
-        high: next_number(&mut words)?,
-        first: next_number(&mut words)?,
-        last: next_number(&mut words)?,
-        step: next_number(&mut words)?,
-    };
-    match words.next() {
-        None => Ok(settings),
-        Some(_) => Err(EXPECTED),
+impl fmt::Display for InputError {
+    fn fmt<W: fmt::Write>(&self, f: &mut fmt::Formatter<W>) -> fmt::Result {
+        f.write_str("expected seven whole numbers of 32 bits: ZERO TRIM LOW HIGH FIRST LAST STEP")
     }
 }
 
-fn next_number(words: &mut SplitWhitespace<'_>) -> Result<i32, &'static str> {
-    let Some(word) = words.next() else {
-        return Err(EXPECTED);
-    };
-    match word.parse::<i32>() {
-        Ok(number) => Ok(number),
-        Err(_) => Err(EXPECTED),
+impl Error for InputError {}
+
+/// Seven whole numbers with white space between them.
+impl FromStr for Settings {
+    type Err = InputError;
+
+    fn from_str(text: &str) -> Result<Settings, InputError> {
+        let mut words = text.split_whitespace();
+        let settings = Settings {
+            zero: next_number(&mut words)?,
+            trim: next_number(&mut words)?,
+            low: next_number(&mut words)?,
+            high: next_number(&mut words)?,
+            span: Span {
+                first: next_number(&mut words)?,
+                last: next_number(&mut words)?,
+                step: next_number(&mut words)?,
+            },
+        };
+        match words.next() {
+            None => Ok(settings),
+            Some(_) => Err(InputError),
+        }
     }
+}
+
+fn next_number(words: &mut SplitWhitespace<'_>) -> Result<i32, InputError> {
+    let word = words.next().ok_or(InputError)?;
+    word.parse().map_err(|_| InputError)
 }

@@ -6,16 +6,16 @@
 
 #![tactic(auto)]
 
-use anyhow::anyhow;
-use input::read_settings;
-use nozzle::{Flow, flow_bounds, flow_row, tabulate};
+use nozzle::{Flow, Settings, tabulate};
 use std::io;
 use std::process::ExitCode;
-use table::Table;
+use table::{Bounds, Row, Table};
 
 mod head;
 mod input;
 mod nozzle;
+mod readings;
+mod span;
 mod table;
 #[cfg(test)]
 mod tests;
@@ -32,29 +32,16 @@ fn main(rt: HostRuntime) -> ExitCode {
 
 fn run(rt: &HostRuntime) -> anyhow::Result<()> {
     let text = io::read_to_string(rt.alloc(), rt.stdin())?;
-    let settings = match read_settings(text.as_str()) {
-        Ok(settings) => settings,
-        Err(fault) => return Err(anyhow!("{fault}")),
-    };
-    match tabulate(settings) {
-        Ok(table) => write_table(rt, &table),
-        Err(refusal) => {
-            let number = refusal.number();
-            Err(anyhow!("refused {number}"))
-        }
-    }
+    let settings = text.as_str().parse::<Settings>()?;
+    let table = tabulate(settings)?;
+    Ok(write_table(rt, &table)?)
 }
 
-fn write_table(rt: &HostRuntime, table: &Table<Flow>) -> anyhow::Result<()> {
+fn write_table(rt: &impl Print, table: &Table<Flow>) -> io::Result<()> {
     let count = table.len();
-    for i in 0..count {
-        if let Some(row) = flow_row(table, i) {
-            let reading = row.reading;
-            let flow = row.value;
-            println!(rt; "{reading} {flow}")?;
-        }
+    for Row { reading, value } in (0..count).filter_map(|i| table.row(i)) {
+        println!(rt; "{reading} {value}")?;
     }
-    let (rise, radius) = flow_bounds(table);
-    println!(rt; "{count} readings, rise {rise}, radius {radius}")?;
-    Ok(())
+    let Bounds { rise, radius } = table.bounds();
+    println!(rt; "{count} readings, rise {rise}, radius {radius}")
 }

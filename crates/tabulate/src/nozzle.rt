@@ -2,9 +2,12 @@
 
 ghost use Rattle.std.specs.Prelude.{◌≡◌};
 ghost use Rattle.engine.specs.Refusals.{Outcome, told};
-ghost use Rattle.tabulate.specs.Flow.{FlowLaw, FlowTable, Piled, flow_of, flow_row, settings_refusal};
+ghost use Rattle.engine.specs.Means.{means};
+ghost use Rattle.tabulate.specs.Flow.{FlowCurve, FlowLaw, FlowTable, Piled, flow_of, settings_refusal};
 
-use super::table::{Row, Table};
+use super::readings::Readings;
+use super::span::Span;
+use super::table::Table;
 use engine::band::Band;
 use engine::curve::{Bare, Curve};
 use engine::layer::{Chain, Clamp, Offset};
@@ -12,7 +15,7 @@ use engine::refusal::Refusal;
 use engine::root::Root;
 
 /// The settings of a nozzle row, as an engineer types them.
-#[derive(Clone, Copy)]
+#[derive(Clone, Copy, PartialEq, Eq, Debug)]
 pub struct Settings {
     /// Added to each reading before the root is taken; held to -16383..16383.
     pub zero: i32,
@@ -22,42 +25,26 @@ pub struct Settings {
     pub low: i32,
     /// The greatest flow that the valves take.
     pub high: i32,
-    /// The first reading of the table.
-    pub first: i32,
-    /// No reading of the table is above this.
-    pub last: i32,
-    /// From each reading to the next, 1 to 16383.
-    pub step: i32,
+    /// The readings of the table.
+    pub span: Span,
 }
 
 /// The root of the reading plus `zero`, plus `trim`, held to `low..high`.
 pub type Flow = Clamp<Offset<Chain<Root, Offset<Bare>>>>;
 
-/// The table of a nozzle row's flow at the readings `first`, `first + step`, `first + 2 step` .. up to `last`.
+/// The table of a nozzle row's flow over the settings' span.
 ///
-/// Refuses 1 and then 11 where `low` and `high` make no band, then the same of `first` and `last`, then 11 where `step`
-/// is not from 1 to 16383.
+/// Refuses 1 and then 11 where `low` and `high` make no band, then as `Readings::try_from` does.
 pub fn tabulate(s: Settings) -> Result<Table<Flow>, Refusal>
     ensures answer { Outcome told (settings_refusal s) (FlowTable s) result }
     ensures law { Outcome told (settings_refusal s) (FlowLaw s) result }
+
+    // so the rows and the bounds of a table of flow are those of `flow_of`
+    ensures meaning { (c : FlowCurve) → means ⟦<Flow as Curve>⟧ c ≡ flow_of c }
 {
     let limit = Band::new(s.low, s.high)?;
-    let span = Band::new(s.first, s.last)?;
-    Table::new(flow_curve(s.zero, s.trim, limit), span, s.step)
-}
-
-/// Row i of a flow table, counted from 0: a reading and its flow.
-pub fn flow_row(table: &Table<Flow>, i: u32) -> Option<Row>
-    ensures { result ≡ flow_row table.now i }
-{
-    table.row(i)
-}
-
-/// The rise and the radius that a flow table tells.
-pub fn flow_bounds(table: &Table<Flow>) -> (u16, u16)
-    ensures { (result.0 ≡ (flow_of table.now.curve).S) × (result.1 ≡ (flow_of table.now.curve).R) }
-{
-    (table.rise(), table.radius())
+    let readings = Readings::try_from(s.span)?;
+    Ok(Table::new(flow_curve(s.zero, s.trim, limit), readings))
 }
 
 // The curve of a nozzle row.

@@ -1,10 +1,10 @@
 //! Worked figures, on which `tests/oracle/check.py` shows the oracle, and texts of the input.
 
-use crate::head::{Span, reflectance_bounds, reflectance_row, tabulate_reflectance};
-use crate::input::read_settings;
-use crate::nozzle::{Flow, Settings, flow_bounds, flow_row, tabulate};
-use crate::table::Table;
-use engine::table::KnotTable;
+use crate::head::tabulate_reflectance;
+use crate::input::InputError;
+use crate::nozzle::{Settings, tabulate};
+use crate::span::Span;
+use crate::table::{Bounds, Row};
 use std::test::Fail;
 
 // Settings with neither a shift nor a trim.
@@ -14,66 +14,67 @@ fn plain(low: i32, high: i32, first: i32, last: i32, step: i32) -> Settings {
         trim: 0,
         low,
         high,
-        first,
-        last,
-        step,
+        span: Span { first, last, step },
     }
 }
 
-// The number that refuses the settings, or 0.
-fn refusal(s: Settings) -> u8 {
-    match tabulate(s) {
-        Ok(_) => 0,
-        Err(refusal) => refusal.number(),
-    }
-}
-
-// Row i as a pair.
-fn row(table: &Table<Flow>, i: u32) -> Option<(i32, i32)> {
-    let row = flow_row(table, i)?;
-    Some((row.reading, row.value))
+// The number that refuses the settings, if they are refused.
+fn refusal(s: Settings) -> Option<u8> {
+    tabulate(s).err().map(|r| r.number())
 }
 
 #[test]
 fn settings_are_refused_in_order(rt: HostRuntime) {
-    assert_eq!(rt; refusal(plain(0, 1, 2, 3, 1)), 0);
-    assert_eq!(rt; refusal(plain(1, 0, 9000, 8, 0)), 11);
-    assert_eq!(rt; refusal(plain(0, 9000, 1, 0, 1)), 1);
-    assert_eq!(rt; refusal(plain(0, 1, 9000, 0, 0)), 1);
-    assert_eq!(rt; refusal(plain(0, 1, 3, 2, 0)), 11);
-    assert_eq!(rt; refusal(plain(0, 1, 2, 3, 0)), 11);
-    assert_eq!(rt; refusal(plain(0, 1, 2, 3, 16384)), 11);
+    assert_eq!(rt; refusal(plain(0, 1, 2, 3, 1)), None);
+    assert_eq!(rt; refusal(plain(1, 0, 9000, 8, 0)), Some(11));
+    assert_eq!(rt; refusal(plain(0, 9000, 1, 0, 1)), Some(1));
+    assert_eq!(rt; refusal(plain(0, 1, 9000, 0, 0)), Some(1));
+    assert_eq!(rt; refusal(plain(0, 1, 3, 2, 0)), Some(11));
+    assert_eq!(rt; refusal(plain(0, 1, 2, 3, 0)), Some(11));
+    assert_eq!(rt; refusal(plain(0, 1, 2, 3, 16384)), Some(11));
+}
+
+// A row, or none past the end, as a table answers it.
+fn row(reading: i32, value: i32) -> Option<Row> {
+    Some(Row { reading, value })
 }
 
 #[test]
 fn a_small_table(rt: HostRuntime) -> Result<(), Fail> {
     let table = tabulate(plain(0, 500, 0, 5, 2))?;
     assert_eq!(rt; table.len(), 3);
-    assert_eq!(rt; row(&table, 0), Some((0, 0)));
-    assert_eq!(rt; row(&table, 1), Some((2, 362)));
-    assert_eq!(rt; row(&table, 2), Some((4, 500)));
-    assert_eq!(rt; row(&table, 3), None);
-    assert_eq!(rt; flow_bounds(&table), (256, 0));
+    assert_eq!(rt; table.row(0), row(0, 0));
+    assert_eq!(rt; table.row(1), row(2, 362));
+    assert_eq!(rt; table.row(2), row(4, 500));
+    assert_eq!(rt; table.row(3), None);
+    assert_eq!(rt;
+        table.bounds(),
+        Bounds {
+            rise: 256,
+            radius: 0
+        }
+    );
     Ok(())
 }
 
 #[test]
 fn the_input_is_seven_numbers(rt: HostRuntime) -> Result<(), Fail> {
-    let s = read_settings(" 1 -2\n3 4\t5 6 +7\n")?;
-    assert_eq!(rt; (s.zero, s.trim, s.low, s.high), (1, -2, 3, 4));
-    assert_eq!(rt; (s.first, s.last, s.step), (5, 6, 7));
-    assert!(rt; read_settings("1 2 3 4 5 6").is_err());
-    assert!(rt; read_settings("1 2 3 4 5 6 7 8").is_err());
-    assert!(rt; read_settings("1 2 3 4 5 6 x").is_err());
-    assert!(rt; read_settings("1 2 3 4 5 6 2147483648").is_err());
-    assert!(rt; read_settings("").is_err());
+    let settings = Settings {
+        zero: 1,
+        trim: -2,
+        ..plain(3, 4, 5, 6, 7)
+    };
+    assert_eq!(rt; " 1 -2\n3 4\t5 6 +7\n".parse::<Settings>(), Ok(settings));
+    for text in [
+        "1 2 3 4 5 6",
+        "1 2 3 4 5 6 7 8",
+        "1 2 3 4 5 6 x",
+        "1 2 3 4 5 6 2147483648",
+        "",
+    ] {
+        assert_eq!(rt; text.parse::<Settings>(), Err(InputError));
+    }
     Ok(())
-}
-
-// Row i of the head's table as a pair.
-fn head_row(table: &Table<KnotTable>, i: u32) -> Option<(i32, i32)> {
-    let row = reflectance_row(table, i)?;
-    Some((row.reading, row.value))
 }
 
 #[test]
@@ -84,9 +85,9 @@ fn a_small_table_of_the_head(rt: HostRuntime) -> Result<(), Fail> {
         step: 1300,
     })?;
     assert_eq!(rt; table.len(), 2);
-    assert_eq!(rt; head_row(&table, 0), Some((400, 2840)));
-    assert_eq!(rt; head_row(&table, 1), Some((1700, 4100)));
-    assert_eq!(rt; reflectance_bounds(&table), (4, 1));
+    assert_eq!(rt; table.row(0), row(400, 2840));
+    assert_eq!(rt; table.row(1), row(1700, 4100));
+    assert_eq!(rt; table.bounds(), Bounds { rise: 4, radius: 1 });
     Ok(())
 }
 
@@ -124,8 +125,8 @@ fn the_whole_head(rt: HostRuntime) -> Result<(), Fail> {
         step: 700,
     })?;
     assert_eq!(rt; table.len(), 22);
-    for i in 0..22 {
-        assert_eq!(rt; head_row(&table, i), Some(HEAD_ROWS[i as usize]));
+    for (i, (reading, value)) in (0..).zip(HEAD_ROWS) {
+        assert_eq!(rt; table.row(i), row(reading, value));
     }
     Ok(())
 }
