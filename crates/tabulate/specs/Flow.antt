@@ -28,12 +28,9 @@ pile low high trim zero = clamp low high (offset trim (chain root_curve (offset 
 abbrev pub asked_flow : Settings → Meaning
 asked_flow s = pile s.low s.high (held_shift s.trim) (held_shift s.zero)
 
--- the curve in the code, by its type and by its meaning
+-- the curve in the code, by its type
 abbrev pub FlowCurve : Type 0
 FlowCurve = Clamp (Offset (Chain Root (Offset Bare)))
-
-abbrev pub flow_of : FlowCurve → Meaning
-flow_of c = pile c.band.lo c.band.hi c.below.shift c.below.below.inner.shift
 
 -- the curve with these numbers
 pub record Piled (zero trim : ℤ) (limit : Band) (c : FlowCurve) : Type 0 where
@@ -47,8 +44,9 @@ pub record Piled (zero trim : ℤ) (limit : Band) (c : FlowCurve) : Type 0 where
 abbrev pub settings_refusal : Settings → Option Told
 settings_refusal s = option_or (band_refusal s.low s.high) (span_refusal s.span)
 
--- the table that the settings ask for, number by number
-pub record FlowTable (s : Settings) (t : Table FlowCurve) : Type 0 where
+-- the table that the settings ask for, number by number; its curve means m
+pub record FlowTable (m : Meaning) (s : Settings) (t : Table FlowCurve) : Type 0 where
+  pub means_flow : m ≡ asked_flow s
   pub zero_is : t.curve.below.below.inner.shift ≡ held_shift s.zero
   pub trim_is : t.curve.below.shift ≡ held_shift s.trim
   pub low_is : t.curve.band.lo ≡ s.low
@@ -57,13 +55,9 @@ pub record FlowTable (s : Settings) (t : Table FlowCurve) : Type 0 where
 
 -- ---- the law
 
--- row i of a flow table
-abbrev pub flow_row : Table FlowCurve → ℕ → Option Row
-flow_row t = row_of (flow_of t.curve) t
-
--- The rows speak for the exact flow, with the count, the rise and the radius that the table tells, and have no flow that
--- the valves do not take.
-pub record FlowLaw (s : Settings) (t : Table FlowCurve) : Type 0 where
-  pub faithful : Faithful (asked_flow s).E (flow_of t.curve).S (flow_of t.curve).R s.span (count_of t) (flow_row t)
-  pub not_below : (i : ℕ) (r : Row) → flow_row t i ≡ Some r → s.low ≤ℤ r.value
-  pub not_above : (i : ℕ) (r : Row) → flow_row t i ≡ Some r → r.value ≤ℤ s.high
+-- The rows of a table whose curve means m speak for the exact flow, with the count, the rise and the radius that the table
+-- tells, and have no flow that the valves do not take.
+pub record FlowLaw (m : Meaning) (s : Settings) (t : Table FlowCurve) : Type 0 where
+  pub faithful : Faithful (asked_flow s).E m.S m.R s.span (count_of t) (row_of m t)
+  pub not_below : (i : ℕ) (r : Row) → row_of m t i ≡ Some r → s.low ≤ℤ r.value
+  pub not_above : (i : ℕ) (r : Row) → row_of m t i ≡ Some r → r.value ≤ℤ s.high

@@ -1,8 +1,8 @@
 -- The reflectance of a sorting head: its curve and the law of its table.
-use Rattle.std.specs.Prelude.{◌≡◌, ℕ, List, [], ◌∷◌, pos, neg_ℤ, Option}
+use Rattle.std.specs.Prelude.{◌≡◌, List, [], ◌∷◌, pos, neg_ℤ}
 use Rattle.engine.specs.Curves.{Meaning}
 use Rattle.engine.specs.declared.knot.Knot.{Knot}
-use Rattle.engine.specs.Edits.{curve_of, knots_of}
+use Rattle.engine.specs.Edits.{knots_of}
 use Rattle.engine.specs.Knots.{knot}
 use Rattle.engine.specs.Tables.{table_curve}
 use Rattle.engine.specs.declared.kind.Kind.TheVariants.{Cubic}
@@ -10,7 +10,6 @@ use Rattle.engine.specs.declared.table.KnotTable.{KnotTable}
 use Rattle.tabulate.specs.Readings.{span_of}
 use Rattle.tabulate.specs.Tables.{count_of, row_of, Faithful}
 use Rattle.tabulate.specs.declared.span.Span.{Span}
-use Rattle.tabulate.specs.declared.table.Row.{Row}
 use Rattle.tabulate.specs.declared.table.Table.{Table}
 
 -- ---- the curve
@@ -38,18 +37,15 @@ reflectance = table_curve Cubic head_knots
 
 -- ---- the answer
 
--- the table of the head's curve at these readings
-pub record ReflectanceTable (s : Span) (t : Table KnotTable) : Type 0 where
+-- the table of the head's curve, which means m, at these readings
+pub record ReflectanceTable (m : Meaning) (s : Span) (t : Table KnotTable) : Type 0 where
+  pub means_reflectance : m ≡ reflectance
   pub knots_are : knots_of t.curve ≡ head_knots
   pub kind_is : t.curve.kind ≡ Cubic
   pub span_is : span_of t.readings ≡ s
 
 -- ---- the law
 
--- row i of a reflectance table
-abbrev pub reflectance_row : Table KnotTable → ℕ → Option Row
-reflectance_row t = row_of (curve_of t.curve) t
-
--- the rows speak for the exact reflectance, with its rise and its radius
-abbrev pub ReflectanceLaw : Span → Table KnotTable → Type 0
-ReflectanceLaw s t = Faithful reflectance.E reflectance.S reflectance.R s (count_of t) (reflectance_row t)
+-- the rows of a table whose curve means m speak for the exact reflectance, with its rise and its radius
+abbrev pub ReflectanceLaw : Meaning → Span → Table KnotTable → Type 0
+ReflectanceLaw m s t = Faithful reflectance.E reflectance.S reflectance.R s (count_of t) (row_of m t)

@@ -3,10 +3,8 @@
 ghost use Rattle.std.specs.Prelude.{◌≡◌};
 ghost use Rattle.engine.specs.Refusals.{Outcome, told};
 ghost use Rattle.engine.specs.Drafts.{IsTable as IsKnotTable};
-ghost use Rattle.engine.specs.Edits.{curve_of};
 ghost use Rattle.engine.specs.Means.{means};
 ghost use Rattle.engine.specs.declared.kind.Kind.TheVariants.{Cubic};
-ghost use Rattle.engine.specs.declared.table.KnotTable.{KnotTable};
 ghost use Rattle.tabulate.specs.Readings.{span_refusal};
 ghost use Rattle.tabulate.specs.Reflectance.{ReflectanceLaw, ReflectanceTable, head_knots};
 
@@ -36,11 +34,10 @@ const HEAD: [Knot; 12] = [
 
 /// The table of the head's reflectance over a span. Refuses as `Readings::try_from` does.
 pub fn tabulate_reflectance(s: Span) -> Result<Table<KnotTable>, Refusal>
-    ensures answer { Outcome told (span_refusal s) (ReflectanceTable s) result }
-    ensures law { Outcome told (span_refusal s) (ReflectanceLaw s) result }
-
-    // so the rows and the bounds of a table of reflectance are those of `curve_of`
-    ensures meaning { (c : KnotTable) → means ⟦<KnotTable as Curve>⟧ c ≡ curve_of c }
+    ensures answer { Outcome told (span_refusal s)
+        (λ t. ReflectanceTable (means ⟦<KnotTable as Curve>⟧ t.curve) s t) result }
+    ensures law { Outcome told (span_refusal s)
+        (λ t. ReflectanceLaw (means ⟦<KnotTable as Curve>⟧ t.curve) s t) result }
 {
     let readings = Readings::try_from(s)?;
     Ok(Table::new(head_curve(), readings))

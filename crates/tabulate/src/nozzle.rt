@@ -3,7 +3,7 @@
 ghost use Rattle.std.specs.Prelude.{◌≡◌};
 ghost use Rattle.engine.specs.Refusals.{Outcome, told};
 ghost use Rattle.engine.specs.Means.{means};
-ghost use Rattle.tabulate.specs.Flow.{FlowCurve, FlowLaw, FlowTable, Piled, flow_of, settings_refusal};
+ghost use Rattle.tabulate.specs.Flow.{FlowLaw, FlowTable, Piled, settings_refusal};
 
 use super::readings::Readings;
 use super::span::Span;
@@ -36,11 +36,8 @@ pub type Flow = Clamp<Offset<Chain<Root, Offset<Bare>>>>;
 ///
 /// Refuses 1 and then 11 where `low` and `high` make no band, then as `Readings::try_from` does.
 pub fn tabulate(s: Settings) -> Result<Table<Flow>, Refusal>
-    ensures answer { Outcome told (settings_refusal s) (FlowTable s) result }
-    ensures law { Outcome told (settings_refusal s) (FlowLaw s) result }
-
-    // so the rows and the bounds of a table of flow are those of `flow_of`
-    ensures meaning { (c : FlowCurve) → means ⟦<Flow as Curve>⟧ c ≡ flow_of c }
+    ensures answer { Outcome told (settings_refusal s) (λ t. FlowTable (means ⟦<Flow as Curve>⟧ t.curve) s t) result }
+    ensures law { Outcome told (settings_refusal s) (λ t. FlowLaw (means ⟦<Flow as Curve>⟧ t.curve) s t) result }
 {
     let limit = Band::new(s.low, s.high)?;
     let readings = Readings::try_from(s.span)?;
