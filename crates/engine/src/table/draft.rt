@@ -2,11 +2,12 @@
 
 ghost use Rattle.std.specs.Prelude.{◌≡◌, ◌+◌, ◌-◌, ◌≤◌, length};
 ghost use Rattle.engine.specs.Refusals.{Outcome, told};
-ghost use Rattle.engine.specs.Drafts.{Slotted};
-ghost use Rattle.engine.specs.Edits.{drop_refusal, put_refusal};
+ghost use Rattle.engine.specs.Drafts.{Slotted, knot_from, linked};
+ghost use Rattle.engine.specs.Edits.{before as before_knot, drop_refusal, put_refusal};
+ghost use Rattle.engine.specs.Knots.{near};
 ghost use Rattle.engine.specs.Lists.{listed};
 
-use super::faults::{are_near, fits_between, is_fit, is_near, is_upward};
+use super::faults::{fits_between, is_fit, is_near, is_upward};
 use super::list::KnotList;
 use super::{FEWEST, MOST};
 use crate::knot::Knot;
@@ -49,10 +50,20 @@ impl KnotList {
         if self.len_without(&slot) < FEWEST {
             return Err(Refusal::KnotCount);
         }
-        if !are_near(self.before(slot.start), self.get(slot.end)) {
+        if !self.closes(&slot) {
             return Err(Refusal::TooFarApart);
         }
         Ok(slot)
+    }
+
+    // The knots on either side of a slot are near enough to be neighbours, where there are two.
+    fn closes(&self, slot: &Range<usize>) -> bool
+        requires { slot.now.start ≤ length (listed self.now) }
+        ensures { result ≡ linked near (before_knot (listed self.now) slot.now.start)
+            (knot_from (listed self.now) slot.now.end) }
+    {
+        let both = self.before(slot.start).zip(self.get(slot.end));
+        both.is_none_or(|(a, b)| is_near(a, b))
     }
 
     // How many knots are outside a slot.

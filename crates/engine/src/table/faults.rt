@@ -2,7 +2,7 @@
 
 ghost use Rattle.std.specs.Prelude.{◌≡◌, Bool, None as Nothing};
 ghost use Rattle.engine.specs.Refusals.{Outcome, at_index, load_told, told};
-ghost use Rattle.engine.specs.Drafts.{fitted, linked};
+ghost use Rattle.engine.specs.Drafts.{fitted};
 ghost use Rattle.engine.specs.Edits.{first_fault, knot_fault};
 ghost use Rattle.engine.specs.Knots.{fits, near, rightward, upward};
 
@@ -53,13 +53,6 @@ pub(super) fn fits_between<F: Fn(Knot, Knot) -> bool>(
         → result ≡ fitted p before k after }
 {
     before.is_none_or(|b| test(b, k)) && after.is_none_or(|a| test(k, a))
-}
-
-// Two knots are near enough to be neighbours, where there are two.
-pub(super) fn are_near(a: Option<Knot>, b: Option<Knot>) -> bool
-    ensures { result ≡ linked near a b }
-{
-    a.zip(b).is_none_or(|(a, b)| is_near(a, b))
 }
 
 // The refusal of the knot at `index`.
