@@ -44,9 +44,12 @@ slope k top (suc i) =
 abbrev pub stored : Fraction → ℤ
 stored m = floorᶠ (whole (pos 2048) *ᶠ m)
 
--- M at knot i of a list, and such slopes for each knot
+-- m and M at knot i of a list, and an M for each knot
+abbrev pub slope_of : List Knot → ℕ → Fraction
+slope_of ks i = slope (knot_at ks) (length ks - 1) i
+
 abbrev pub stored_at : List Knot → ℕ → ℤ
-stored_at ks i = stored (slope (knot_at ks) (length ks - 1) i)
+stored_at ks i = stored (slope_of ks i)
 
 abbrev pub Slopes : List Knot → List ℕ → Type 0
 Slopes ks slopes = (i : ℕ) → i < length ks → pos (slice_index slopes i) ≡ stored_at ks i

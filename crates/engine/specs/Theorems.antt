@@ -8,7 +8,7 @@ use Rattle.engine.specs.Pieces.{width, height, line_exact}
 use Rattle.engine.specs.Root.{root_entry, root_knot, root_value, root_exact, root_curve, GreatestRoot}
 use Rattle.engine.specs.declared.knot.Knot.{Knot}
 use Rattle.engine.specs.Knots.{fewest, knot, knot_at, lawful}
-use Rattle.engine.specs.Tables.{secant, slope, stored, cubic_exact, cubic_value, table_curve}
+use Rattle.engine.specs.Tables.{secant, slope, stored, cubic_exact, cubic_value, table_curve, slope_of}
 use Rattle.engine.specs.declared.kind.Kind.{Kind}
 use Rattle.engine.specs.declared.kind.Kind.TheVariants.{Step, Line, Cubic}
 
@@ -91,10 +91,6 @@ pub record LineLaw (ks : List Knot) : Type 0 where
       → q ≤ᶠ whole (knot_at ks (suc i)).x
       → (table_curve Line ks).E q ≈ᶠ line_exact (knot_at ks i) (width (knot_at ks) i) (height (knot_at ks) i) q
   pub value_is : (x : ℤ) → (table_curve Line ks).V x ≡ roundᶠ ((table_curve Line ks).E (whole x))
-
--- m at knot i
-abbrev pub slope_of : List Knot → ℕ → Fraction
-slope_of ks i = slope (knot_at ks) (length ks - 1) i
 
 -- cubics: the Hermite piece with the slopes at its knots, and its value with the stored slopes; no slope is more than
 -- three secants of the piece before it or after it
