@@ -1,8 +1,9 @@
 -- A table's value by the knots that its argument has reached, and its rise by its pieces, as the code finds them.
-use Rattle.std.proofs.Common.{◌≡◌, ℕ, suc, ◌+◌, ◌-◌, ◌*◌, ◌<◌, ◌≤◌, min, max, true, false, eqb, List, length, ℤ, pos, ◌≤ℤ◌, sym, refl, ap, ◌∙◌, subst, ap₂, arith}
+use Rattle.std.proofs.Common.{◌≡◌, ℕ, suc, ◌+◌, ◌-◌, ◌*◌, ◌<◌, ◌≤◌, min, max, true, false, eqb, List, length, ℤ, pos, ◌≤ℤ◌, sym, refl, ap, ◌∙◌, subst, ap₂, arith, [], ◌∷◌, drop, inl, inr, ◌⊎◌, subst₂}
 use lib.Signed.{le_z}
 use borrow.Author.Differences.{ints}
-use Rattle.std.proofs.lemmas.Bool.{ne_eqb}
+use Rattle.std.proofs.lemmas.Bool.{cases_lt, ne_eqb}
+use Rattle.std.proofs.lemmas.List.{drop_all, drop_more, length-drop}
 use Rattle.std.proofs.Math.Numerals.{add-one}
 use Rattle.engine.specs.Coordinates.{furthest}
 use Rattle.engine.specs.Fraction.{Fraction, whole, roundᶠ}
@@ -12,14 +13,14 @@ use Rattle.engine.specs.declared.knot.Knot.{Knot}
 use Rattle.engine.specs.Lines.{line_piece}
 use Rattle.engine.specs.Orders.{leZ_false}
 use Rattle.engine.specs.Drafts.{Reached}
-use Rattle.engine.specs.Knots.{fewest, knot_at, lawful}
-use Rattle.engine.specs.Neighbours.{Gentle, piece_value, piece_rise}
+use Rattle.engine.specs.Knots.{empty, fewest, knot_at, lawful}
+use Rattle.engine.specs.Neighbours.{Gentle, Neighbours, piece_value, piece_rise}
 use Rattle.engine.specs.Tables.{stored_at, slope, stored, value_from, greatest, table_value, table_rise, secant}
 use Rattle.engine.specs.declared.kind.Kind.{Kind}
 use Rattle.engine.specs.declared.kind.Kind.TheVariants.{Step, Line, Cubic}
 use Rattle.engine.specs.CubicPieces.{Slope}
 use Rattle.engine.specs.CubicValues.{stored_of, stored_gentle}
-use Rattle.engine.specs.Lawfuls.{lawful_list}
+use Rattle.engine.specs.Lawfuls.{lawful_list, piece_after}
 use Rattle.engine.proofs.Reached.{value_first, value_last, value_reached}
 use Rattle.engine.specs.Slopes.{gentle_piece}
 use Rattle.engine.specs.TableRules.{kind_rules}
@@ -119,13 +120,52 @@ pub steepest_none : (kind : Kind) (k : ℕ → Knot) → 0 ≡ steepest kind k 0
 unfolding steepest greatest
 steepest_none kind k = refl
 
--- a turn of the loop at piece i, which goes from p to q
-pub steepest_turn : (kind : Kind) (k : ℕ → Knot) (i a s : ℕ) (p q : Knot) → a ≡ steepest kind k i → p ≡ k i
-    → q ≡ k (i + 1) → s ≡ max (piece_rise kind p q) a → s ≡ steepest kind k (i + 1)
-unfolding steepest greatest
-steepest_turn kind k i a s p q inv start end up =
-    subst (λ n. s ≡ steepest kind k n) (sym (add-one i))
-    (up ∙ ap₂ max (ap₂ (piece_rise kind) start (end ∙ ap k (add-one i))) inv)
+-- what two walks over the knots, one a knot ahead, have seen: n knots before them, and the greatest rise of the first n pieces
+pub record Walked (kind : Kind) (ks : List Knot) (n greatest : ℕ) (behind ahead : List Knot) : Type 0 where
+  pub behind_is : behind ≡ drop n ks
+  pub ahead_is : ahead ≡ drop (n + 1) ks
+  pub room : n + 1 ≤ length ks
+  pub greatest_is : greatest ≡ steepest kind (knot_at ks) n
+
+-- the next of some knots
+next_knot : (ks : List Knot) (n : ℕ) (k : Knot) (rest xs : List Knot) → xs ≡ drop n ks → xs ≡ k ∷ rest
+    → (n < length ks) × (k ≡ knot_at ks n) × (rest ≡ drop (n + 1) ks)
+next_knot ks n k rest xs e f = elim (cases_lt n (length ks)) [
+  | inl l ↦
+      (let both : ◌≡◌ {A = List Knot} (k ∷ rest) (knot_at ks n ∷ drop (n + 1) ks) = sym f ∙ e ∙ drop_more ks n empty l in
+      (l, ap (λ xs. knot_at xs 0) both, ap (drop 1) both))
+  | inr m ↦ (let none : ◌≡◌ {A = List Knot} (k ∷ rest) [] = sym f ∙ e ∙ drop_all n ks m in absurd (omega (arith, ap length none)))
+]
+
+module _ (kind : Kind) (ks : List Knot) (n a : ℕ) (behind ahead : List Knot) (w : Walked kind ks n a behind ahead) where
+  -- a turn, which takes the knots p and q
+  module _ (p q : Knot) (ps qs : List Knot) (e : behind ≡ p ∷ ps) (f : ahead ≡ q ∷ qs) where
+    pub walked_piece : lawful ks ≡ true → Neighbours p q
+    walked_piece ok =
+        let g = next_knot ks n p ps behind w.behind_is e in
+        let h = next_knot ks (n + 1) q qs ahead w.ahead_is f in
+        subst₂ Neighbours (sym g.1) (sym h.1) (piece_after ks ok n h.0)
+
+    pub walked_on : (r s : ℕ) → r ≡ piece_rise kind p q → s ≡ max r a → Walked kind ks (n + 1) s ps qs
+    unfolding steepest greatest
+    walked_on r s told up =
+        let g = next_knot ks n p ps behind w.behind_is e in
+        let h = next_knot ks (n + 1) q qs ahead w.ahead_is f in
+        record {
+          behind_is = g.2;
+          ahead_is = h.2;
+          room = omega (arith, h.0);
+          greatest_is = subst (λ m. s ≡ steepest kind (knot_at ks) m) (sym (add-one n))
+              (up
+              ∙ ap₂ max (told ∙ ap₂ (piece_rise kind) g.1 (h.1 ∙ ap (knot_at ks) (add-one n))) w.greatest_is);
+        }
+
+  -- its end, where either walk is over
+  pub walked_all : fewest ≤ length ks → (length behind ≡ 0) ⊎ (length ahead ≡ 0) → n ≡ length ks - 1
+  walked_all some over = elim over [
+    | inl e ↦ omega (arith, e, ap length w.behind_is, length-drop n ks, w.room)
+    | inr e ↦ omega (arith, e, ap length w.ahead_is, length-drop (n + 1) ks, w.room)
+  ]
 
 -- held, it is the table's; steps and lines need no holding
 held : (a : ℕ) → a ≤ furthest → min a furthest ≡ a

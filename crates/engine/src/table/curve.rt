@@ -7,7 +7,7 @@ ghost use Rattle.engine.specs.TableRules.{array_rules};
 ghost use Rattle.engine.specs.Tables.{stored_at};
 
 use super::KnotTable;
-use super::piece::SlopedPiece;
+use super::piece::{Piece, SlopedPiece};
 use crate::coordinate::{FURTHEST, held};
 use crate::curve::Curve;
 use crate::kind::Kind;
@@ -28,9 +28,10 @@ impl Curve for KnotTable {
     }
 
     fn rise(&self) -> u16 {
+        let ks = self.list.as_slice();
         let mut greatest = 0;
-        for i in 0..self.list.len() - 1 {
-            greatest = self.list.piece(i).rise(self.kind).max(greatest);
+        for (from, to) in ks.iter().zip(&ks[1..]) {
+            greatest = Piece::new(*from, *to).rise(self.kind).max(greatest);
         }
         greatest.min(FURTHEST as u64) as u16
     }

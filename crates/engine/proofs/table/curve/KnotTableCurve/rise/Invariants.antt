@@ -1,9 +1,11 @@
-use Rattle.std.proofs.Common.{◌≡◌}
-use Rattle.engine.specs.Knots.{knot_at}
+use Rattle.std.proofs.Common.{length}
+use Rattle.std.specs.Slice.Iter.{iter_rest}
 use Rattle.engine.specs.Lists.{listed}
-use Rattle.engine.proofs.TableValues.{steepest}
+use Rattle.engine.proofs.TableValues.{Walked}
 use Rattle.engine.proofs.table.curve.KnotTableCurve.rise.Given as goal
 
--- the greatest rise of the first i pieces
-abbrev pub invariant-loop-i : goal.invariant-loop-i
-invariant-loop-i l = l.greatest ≡ steepest l.self.kind (knot_at (listed l.self.list)) l.i
+-- one walk is at the pieces' starts, the other at their ends
+abbrev pub invariant-loop-from : goal.invariant-loop-from
+invariant-loop-from l =
+    Walked l.self.kind (listed l.self.list) (length l.yielded) l.greatest (iter_rest l.from-iterator.a)
+    (iter_rest l.from-iterator.b)
