@@ -8,7 +8,7 @@ use Rattle.engine.specs.Pieces.{width, height, line_exact}
 use Rattle.engine.specs.Root.{root_entry, root_knot, root_value, root_exact, root_curve, GreatestRoot}
 use Rattle.engine.specs.declared.knot.Knot.{Knot}
 use Rattle.engine.specs.Knots.{fewest, knot, knot_at, lawful}
-use Rattle.engine.specs.Tables.{secant, slope, stored, cubic_exact, cubic_value, table_curve, slope_of}
+use Rattle.engine.specs.Tables.{secant, stored, cubic_exact, cubic_value, table_curve, slope_of}
 use Rattle.engine.specs.declared.kind.Kind.{Kind}
 use Rattle.engine.specs.declared.kind.Kind.TheVariants.{Step, Line, Cubic}
 

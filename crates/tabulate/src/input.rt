@@ -35,10 +35,10 @@ impl FromStr for Settings {
                 step: next_number(&mut words)?,
             },
         };
-        match words.next() {
-            None => Ok(settings),
-            Some(_) => Err(InputError),
+        if words.next().is_some() {
+            return Err(InputError);
         }
+        Ok(settings)
     }
 }
 

@@ -1,4 +1,4 @@
-use Rattle.std.proofs.Common.{◌≡◌, ◌+◌, ◌++◌, ◌∷◌, [], drop, max, min, length, sym, ap, ap₂, ◌∙◌, subst, inl, inr, rules, arith}
+use Rattle.std.proofs.Common.{◌∷◌, [], drop, min, sym, ap, ap₂, ◌∙◌, subst, inl, inr, rules, arith}
 use Rattle.std.proofs.lemmas.List.{length-append, length-drop, take_all}
 use Rattle.std.specs.Slice.Iter.{iter_rest}
 use Rattle.engine.specs.Coordinates.{furthest}
