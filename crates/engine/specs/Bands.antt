@@ -1,5 +1,5 @@
 -- Bands: pairs of coordinates a, b with a at most b. The readings of a band are those from a to b.
-use Rattle.std.specs.Prelude.{◌≡◌, Bool, cond, not, ◌&&◌, ℤ, Some, None, Option, int_le, int_lt}
+use Rattle.std.specs.Prelude.{◌≡◌, Bool, if◌then◌else◌, not, ◌&&◌, ℤ, Some, None, Option, int_le, int_lt}
 use Rattle.engine.specs.Coordinates.{coordinate}
 use Rattle.engine.specs.Refusals.{Told, alone, not_coordinate, out_of_limits}
 use Rattle.engine.specs.declared.band.Band.{Band}
@@ -7,9 +7,9 @@ use Rattle.engine.specs.declared.band.Band.{Band}
 -- why a and b make no band: one of them is no coordinate; then, they are reversed
 abbrev pub band_refusal : ℤ → ℤ → Option Told
 band_refusal a b =
-    cond (not (coordinate a && coordinate b)) (Some (alone not_coordinate))
-    (cond (int_lt b a) (Some (alone out_of_limits))
-    None)
+    if not (coordinate a && coordinate b) then Some (alone not_coordinate)
+    else if int_lt b a then Some (alone out_of_limits)
+    else None
 
 -- the band from a to b
 abbrev pub IsBand : ℤ → ℤ → Band → Type 0

@@ -1,5 +1,5 @@
 -- Coordinates, the fractions between them, and holding.
-use Rattle.std.specs.Prelude.{ℕ, Bool, cond, ◌&&◌, ℤ, pos, negsuc, neg_ℤ, ◌≤ℤ◌, int_le, int_lt}
+use Rattle.std.specs.Prelude.{ℕ, Bool, if◌then◌else◌, ◌&&◌, ℤ, pos, negsuc, neg_ℤ, ◌≤ℤ◌, int_le, int_lt}
 use Rattle.engine.specs.Fraction.{Fraction, whole, ◌≤ᶠ◌, ltᶠ}
 
 -- the least and the greatest coordinate, -8192 and 8191
@@ -25,11 +25,11 @@ pub record Within (q : Fraction) : Type 0 where
 
 -- x held to a..b: a below a, b above b, otherwise x
 abbrev pub hold : ℤ → ℤ → ℤ → ℤ
-hold a b x = cond (int_lt x a) a (cond (int_lt b x) b x)
+hold a b x = if int_lt x a then a else if int_lt b x then b else x
 
 -- the same of a fraction
 abbrev pub holdᶠ : ℤ → ℤ → Fraction → Fraction
-holdᶠ a b q = cond (ltᶠ q (whole a)) (whole a) (cond (ltᶠ (whole b) q) (whole b) q)
+holdᶠ a b q = if ltᶠ q (whole a) then whole a else if ltᶠ (whole b) q then whole b else q
 
 -- the greatest distance of two coordinates: no rise, radius or shift need pass it
 abbrev pub furthest : ℕ

@@ -1,5 +1,5 @@
 -- What the steps of an edit promise one another.
-use Rattle.std.specs.Prelude.{◌≡◌, ℕ, suc, ◌-◌, ◌<◌, ◌≤◌, Bool, true, false, cond, ◌&&◌, List, [], ◌∷◌, length, ℤ, Some, None, Option, int_le, nat_lt}
+use Rattle.std.specs.Prelude.{◌≡◌, ℕ, suc, ◌-◌, ◌<◌, ◌≤◌, Bool, true, false, if◌then◌else◌, ◌&&◌, List, [], ◌∷◌, length, ℤ, Some, None, Option, int_le, nat_lt}
 use Rattle.std.specs.List.{splice}
 use Rattle.engine.specs.declared.knot.Knot.{Knot}
 use Rattle.engine.specs.Edits.{before, knots_of}
@@ -15,7 +15,7 @@ pub record Reached (ks : List Knot) (x : ℤ) (n : ℕ) : Type 0 where
 
 -- the knot at i, where the list has one
 abbrev pub knot_from : List Knot → ℕ → Option Knot
-knot_from ks i = cond (nat_lt i (length ks)) (Some (knot_at ks i)) None
+knot_from ks i = if nat_lt i (length ks) then Some (knot_at ks i) else None
 
 -- a test of two neighbours, where there are two
 abbrev pub linked : (Knot → Knot → Bool) → Option Knot → Option Knot → Bool

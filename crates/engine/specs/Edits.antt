@@ -1,5 +1,5 @@
 -- The edits of a knot table: why each is refused, what it makes of the table, and what the table then has.
-use Rattle.std.specs.Prelude.{◌≡◌, ℕ, zero, suc, ◌<◌, cond, not, ◌&&◌, ◌||◌, ◌⊎◌, List, [], ◌∷◌, length, ℤ, Some, None, Ok, Err, Option, Result, nat_lt}
+use Rattle.std.specs.Prelude.{◌≡◌, ℕ, zero, suc, ◌<◌, if◌then◌else◌, not, ◌&&◌, ◌||◌, ◌⊎◌, List, [], ◌∷◌, length, ℤ, Some, None, Ok, Err, Option, Result, nat_lt}
 use Rattle.std.specs.Option.{option_or}
 use Rattle.engine.specs.Coordinates.{coordinate}
 use Rattle.engine.specs.Curves.{Meaning}
@@ -43,14 +43,14 @@ Has k (j ∷ ks) = (k ≡ j) ⊎ Has k ks
 abbrev pub order_fault : ℕ → Option Knot → Knot → Option Told
 order_fault i None k = None
 order_fault i (Some before) k =
-    cond (not (rightward before k)) (Some (at_index i not_rightward))
-    (cond (not (near before k)) (Some (at_index i too_far_apart))
-    (cond (not (upward before k)) (Some (at_index i out_of_order))
-    None))
+    if not (rightward before k) then Some (at_index i not_rightward)
+    else if not (near before k) then Some (at_index i too_far_apart)
+    else if not (upward before k) then Some (at_index i out_of_order)
+    else None
 
 -- what is wrong with the knot: a part is no coordinate, then its place
 abbrev pub knot_fault : ℕ → Option Knot → Knot → Option Told
-knot_fault i before k = cond (not (fits k)) (Some (at_index i not_coordinate)) (order_fault i before k)
+knot_fault i before k = if not (fits k) then Some (at_index i not_coordinate) else order_fault i before k
 
 -- the first fault of the knots that follow `before`, of which the first has the index i
 abbrev pub first_fault : ℕ → Option Knot → List Knot → Option Told
@@ -60,7 +60,7 @@ first_fault i before (k ∷ ks) = option_or (knot_fault i before k) (first_fault
 -- why a list is refused: its number of knots, then the first fault
 abbrev pub load_refusal : List Knot → Option Told
 load_refusal ks =
-    cond (nat_lt (length ks) fewest || nat_lt most (length ks)) (Some (alone knot_count)) (first_fault zero None ks)
+    if nat_lt (length ks) fewest || nat_lt most (length ks) then Some (alone knot_count) else first_fault zero None ks
 
 -- the knot before knot i
 abbrev pub before : List Knot → ℕ → Option Knot
@@ -93,11 +93,11 @@ pub record Loaded (ks : List Knot) (was new : KnotTable) : Type 0 where
 abbrev pub put_refusal : ℤ → ℤ → List Knot → Option Told
 put_refusal x y ks =
     let new : List Knot = with_knot x y ks in
-    cond (not (coordinate x && coordinate y)) (Some (alone not_coordinate))
-    (cond (nat_lt most (length new)) (Some (alone knot_count))
-    (cond (not (neighbours near new)) (Some (alone too_far_apart))
-    (cond (not (neighbours upward new)) (Some (alone out_of_order))
-    None)))
+    if not (coordinate x && coordinate y) then Some (alone not_coordinate)
+    else if nat_lt most (length new) then Some (alone knot_count)
+    else if not (neighbours near new) then Some (alone too_far_apart)
+    else if not (neighbours upward new) then Some (alone out_of_order)
+    else None
 
 -- what an honoured put leaves
 pub record Put (x y : ℤ) (was new : KnotTable) : Type 0 where
@@ -116,10 +116,10 @@ pub record Put (x y : ℤ) (was new : KnotTable) : Type 0 where
 abbrev pub drop_refusal : ℤ → List Knot → Option Told
 drop_refusal x ks =
     let new : List Knot = without_knot x ks in
-    cond (not (has_knot x ks)) (Some (alone no_knot))
-    (cond (nat_lt (length new) fewest) (Some (alone knot_count))
-    (cond (not (neighbours near new)) (Some (alone too_far_apart))
-    None))
+    if not (has_knot x ks) then Some (alone no_knot)
+    else if nat_lt (length new) fewest then Some (alone knot_count)
+    else if not (neighbours near new) then Some (alone too_far_apart)
+    else None
 
 -- what an honoured drop leaves
 pub record Dropped (x : ℤ) (was new : KnotTable) : Type 0 where

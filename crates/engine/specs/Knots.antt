@@ -1,5 +1,5 @@
 -- Lists of knots: the rules of a knot table, and what its edits make of a list.
-use Rattle.std.specs.Prelude.{ℕ, Bool, true, false, cond, not, ◌&&◌, List, [], ◌∷◌, ℤ, pos, ◌+ℤ◌, neg_ℤ, int_le, int_lt, slice_index_or}
+use Rattle.std.specs.Prelude.{ℕ, Bool, true, false, if◌then◌else◌, not, ◌&&◌, List, [], ◌∷◌, ℤ, pos, ◌+ℤ◌, neg_ℤ, int_le, int_lt, slice_index_or}
 use Rattle.engine.specs.Coordinates.{coordinate, lowest, highest}
 use Rattle.engine.specs.Pieces.{widest}
 use Rattle.engine.specs.declared.knot.Knot.{Knot}
@@ -65,14 +65,15 @@ start_knots = same lowest ∷ same (neg_ℤ (pos 4096)) ∷ same (pos 0) ∷ sam
 abbrev pub with_knot : ℤ → ℤ → List Knot → List Knot
 with_knot x y [] = knot x y ∷ []
 with_knot x y (k ∷ ks) =
-    cond (int_lt k.x x) (k ∷ with_knot x y ks) (knot x y ∷ cond (int_lt x k.x) (k ∷ ks) ks)
+    if int_lt k.x x then k ∷ with_knot x y ks else knot x y ∷ (if int_lt x k.x then k ∷ ks else ks)
 
 -- a knot stands at x
 abbrev pub has_knot : ℤ → List Knot → Bool
 has_knot x [] = false
-has_knot x (k ∷ ks) = cond (int_lt k.x x) (has_knot x ks) (not (int_lt x k.x))
+has_knot x (k ∷ ks) = if int_lt k.x x then has_knot x ks else not (int_lt x k.x)
 
 -- the knots but for the one at x
 abbrev pub without_knot : ℤ → List Knot → List Knot
 without_knot x [] = []
-without_knot x (k ∷ ks) = cond (int_lt k.x x) (k ∷ without_knot x ks) (cond (int_lt x k.x) (k ∷ ks) ks)
+without_knot x (k ∷ ks) =
+    if int_lt k.x x then k ∷ without_knot x ks else if int_lt x k.x then k ∷ ks else ks

@@ -1,5 +1,5 @@
 -- The root curve, for the flow through a nozzle.
-use Rattle.std.specs.Prelude.{◌≡◌, ℕ, zero, suc, ◌*◌, ◌<◌, ◌≤◌, cond, List, length, ℤ, pos, nat_le, slice_index, unsigned_abs}
+use Rattle.std.specs.Prelude.{◌≡◌, ℕ, zero, suc, ◌*◌, ◌<◌, ◌≤◌, if◌then◌else◌, List, length, ℤ, pos, nat_le, slice_index, unsigned_abs}
 use Rattle.engine.specs.Fraction.{Fraction}
 use Rattle.engine.specs.Coordinates.{hold}
 use Rattle.engine.specs.Curves.{Meaning, meaning}
@@ -14,7 +14,7 @@ pub record GreatestRoot (n s : ℕ) : Type 0 where
 -- the greatest of 0..s whose square is at most n
 unfoldable pub root_up_to : (n s : ℕ) → ℕ
 root_up_to n zero = zero
-root_up_to n (suc s) = cond (nat_le (suc s * suc s) n) (suc s) (root_up_to n s)
+root_up_to n (suc s) = if nat_le (suc s * suc s) n then suc s else root_up_to n s
 
 -- the greatest whole number whose square is at most n
 unfoldable pub root : ℕ → ℕ

@@ -1,7 +1,7 @@
 -- Knot tables as curves: the value V, the exact value E, the rise S and the radius R of steps, straight lines and
 -- monotone cubics through knots. The knots are given by index: `k i` for i from 0 to `top`. Piece i goes from knot i to
 -- knot i + 1; h is its width and D its height.
-use Rattle.std.specs.Prelude.{◌≡◌, ℕ, zero, suc, ◌+◌, ◌-◌, ◌*◌, ◌<◌, slice_index, min, max, cond, ◌||◌, List, length, ℤ, pos, ◌+ℤ◌, ◌-ℤ◌, ◌*ℤ◌, ◌==◌, int_le, unsigned_abs}
+use Rattle.std.specs.Prelude.{◌≡◌, ℕ, zero, suc, ◌+◌, ◌-◌, ◌*◌, ◌<◌, slice_index, min, max, if◌then◌else◌, ◌||◌, List, length, ℤ, pos, ◌+ℤ◌, ◌-ℤ◌, ◌*ℤ◌, ◌==◌, int_le, unsigned_abs}
 use Rattle.engine.specs.Coordinates.{furthest}
 use Rattle.engine.specs.Curves.{Meaning, meaning}
 use Rattle.engine.specs.Fraction.{Fraction, whole, ◌÷◌, ◌+ᶠ◌, ◌-ᶠ◌, ◌*ᶠ◌, ◌/ᶠ◌, leᶠ, floorᶠ, ceilᶠ, roundᶠ}
@@ -28,7 +28,7 @@ mean_bottom ha Da hb Db = (2 * hb + ha) * ha * Db + (hb + 2 * ha) * hb * Da
 -- m at a knot between two such pieces: 0 where either is flat, otherwise that mean
 unfoldable pub inner_slope : (ha Da hb Db : ℕ) → Fraction
 inner_slope ha Da hb Db =
-    cond (Da == 0 || Db == 0) (whole (pos 0)) (pos (mean_top ha Da hb Db) ÷ mean_bottom ha Da hb Db)
+    if Da == 0 || Db == 0 then whole (pos 0) else pos (mean_top ha Da hb Db) ÷ mean_bottom ha Da hb Db
 
 -- m at an end knot, with piece i next to it: the secant of that piece
 unfoldable pub end_slope : (ℕ → Knot) → ℕ → Fraction
@@ -38,7 +38,8 @@ end_slope k i = secant k i
 unfoldable pub slope : (ℕ → Knot) → (top i : ℕ) → Fraction
 slope k top zero = end_slope k zero
 slope k top (suc i) =
-    cond (suc i == top) (end_slope k i) (inner_slope (width k i) (height k i) (width k (suc i)) (height k (suc i)))
+    if suc i == top then end_slope k i
+    else inner_slope (width k i) (height k i) (width k (suc i)) (height k (suc i))
 
 -- the stored slope M: the greatest whole number not above 2048 m
 abbrev pub stored : Fraction → ℤ
@@ -86,8 +87,8 @@ unfoldable pub exact_from : Kind → (ℕ → Knot) → (top i : ℕ) → Fracti
 exact_from Step k top i q = whole (k i).y
 exact_from Line k top i q = line_from k top i q
 exact_from Cubic k top i q =
-    cond (i == top) (whole (k i).y)
-    (cubic_exact (k i) (width k i) (height k i) (slope k top i) (slope k top (suc i)) q)
+    if i == top then whole (k i).y
+    else cubic_exact (k i) (width k i) (height k i) (slope k top i) (slope k top (suc i)) q
 
 -- by the last knot at or below the argument; below the first, its y
 unfoldable pub table_exact : Kind → (ℕ → Knot) → ℕ → Fraction → Fraction
@@ -100,8 +101,8 @@ unfoldable pub value_from : Kind → (ℕ → Knot) → (top i : ℕ) → ℤ �
 value_from Step k top i x = (k i).y
 value_from Line k top i x = roundᶠ (line_from k top i (whole x))
 value_from Cubic k top i x =
-    cond (i == top) (k i).y
-    (cubic_value (k i) (width k i) (height k i) (stored (slope k top i)) (stored (slope k top (suc i))) x)
+    if i == top then (k i).y
+    else cubic_value (k i) (width k i) (height k i) (stored (slope k top i)) (stored (slope k top (suc i))) x
 
 unfoldable pub table_value : Kind → (ℕ → Knot) → ℕ → ℤ → ℤ
 table_value kind k top = piecewise (λ i x. int_le (k i).x x) (λ x. (k 0).y) (value_from kind k top) top
