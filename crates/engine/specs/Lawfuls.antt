@@ -76,7 +76,12 @@ module _ (ks : List Knot) (ok : lawful ks ≡ true) where
     upward = leZ_true _ _ (neighbours_at upward ks parts.3 i l);
   }
 
-  -- the same with i + 1
+  -- the same by the index of its end, and with i + 1
+  pub piece_before : (i : ℕ) → 0 < i → i < length ks → Neighbours (knot_at ks (i - 1)) (knot_at ks i)
+  piece_before zero some l = absurd (omega arith)
+  piece_before (suc i) some l =
+      let e : i ≡ suc i - 1 = omega arith in subst (λ j. Neighbours (knot_at ks j) (knot_at ks (suc i))) e (piece_at_lem i l)
+
   pub piece_after : (i : ℕ) → i + 1 < length ks → Neighbours (knot_at ks i) (knot_at ks (i + 1))
   piece_after i l =
       let e : suc i ≡ i + 1 = omega arith in

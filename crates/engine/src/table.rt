@@ -15,7 +15,7 @@ use crate::knot::Knot;
 use crate::refusal::{LoadRefusal, Refusal};
 
 mod curve;
-mod draft;
+mod edit;
 mod faults;
 mod list;
 mod piece;
@@ -41,7 +41,7 @@ const START: [Knot; 5] = [
 pub struct KnotTable {
     list: KnotList,
     // the stored slope at each knot, whatever the kind
-    slopes: [u32; 96],
+    slopes: [u32; MOST],
     kind: Kind,
     ghost room: { length slopes ≡ most },
     ghost steep: { Slopes (listed list) slopes },
@@ -77,7 +77,7 @@ impl KnotTable {
         ensures blame { WhereRefused load_told (NamesFirst ks.now) result }
     {
         if !(FEWEST..=MOST).contains(&ks.len()) {
-            return Err(LoadRefusal::Whole(Refusal::KnotCount));
+            return Err(Refusal::KnotCount.into());
         }
         check_knots(ks)?;
         *self = KnotTable::of(KnotList::new(ks), self.kind);

@@ -1,6 +1,7 @@
 //! One curve after another.
 
-ghost use Rattle.std.specs.Prelude.{◌≡◌};
+ghost use Rattle.std.specs.Prelude.{◌≡◌, min};
+ghost use Rattle.engine.specs.Coordinates.{furthest};
 ghost use Rattle.engine.specs.Curves.{chain};
 ghost use Rattle.engine.specs.Means.{means};
 ghost use Rattle.engine.specs.Layers.{chain_rules};
@@ -41,13 +42,18 @@ impl<G: Curve, F: Curve> Curve for Chain<G, F> {
     }
 
     fn rise(&self) -> u16 {
-        let both = self.outer.rise().saturating_mul(self.inner.rise());
-        both.min(FURTHEST as u16)
+        capped(self.outer.rise().saturating_mul(self.inner.rise()))
     }
 
     fn radius(&self) -> u16 {
         let inner = self.outer.rise().saturating_mul(self.inner.radius());
-        let both = self.outer.radius().saturating_add(inner);
-        both.min(FURTHEST as u16)
+        capped(self.outer.radius().saturating_add(inner))
     }
+}
+
+// A rise or a radius held to 0..16383.
+fn capped(n: u16) -> u16
+    ensures { result ≡ min n furthest }
+{
+    n.min(FURTHEST as u16)
 }

@@ -50,7 +50,7 @@ impl KnotTable {
         ensures { result ≡ (curve_of self.now).V x }
     {
         let ks = self.list.as_slice();
-        let n = self.list.reached(x);
+        let n = self.list.count_reached(x);
         if n == 0 {
             return ks[0].y;
         }
@@ -65,8 +65,8 @@ impl KnotTable {
         requires { i + 1 < length (knots_of self.now) }
         ensures from { result.piece.from ≡ knot_at (knots_of self.now) i }
         ensures to { result.piece.to ≡ knot_at (knots_of self.now) (i + 1) }
-        ensures start { pos result.start ≡ stored_at (knots_of self.now) i }
-        ensures end { pos result.end ≡ stored_at (knots_of self.now) (i + 1) }
+        ensures start { pos result.start_slope ≡ stored_at (knots_of self.now) i }
+        ensures end { pos result.end_slope ≡ stored_at (knots_of self.now) (i + 1) }
     {
         SlopedPiece::new(self.list.piece(i), self.slopes[i], self.slopes[i + 1])
     }

@@ -4,6 +4,7 @@ ghost use Rattle.std.specs.Prelude.{◌≡◌, ◌+◌, ◌<◌, ◌≤◌, true
 ghost use Rattle.std.specs.List.{splice};
 ghost use Rattle.engine.specs.Knots.{fewest, knot_at, lawful, most};
 
+use super::MOST;
 use super::piece::Piece;
 use crate::knot::Knot;
 use std::ops::Range;
@@ -14,7 +15,7 @@ const EMPTY: Knot = Knot { x: 0, y: 0 };
 /// 2 to 96 knots of coordinates, each x above the one before by at most 4096, no y below the one before.
 #[derive(Clone, Copy)]
 pub(super) struct KnotList {
-    knots: [Knot; 96],
+    knots: [Knot; MOST],
     count: usize,
     ghost room: { length knots ≡ most },
     ghost some: { fewest ≤ count },
@@ -32,7 +33,7 @@ impl KnotList {
         requires ok { lawful ks.now ≡ true }
         ensures { listed result ≡ ks.now }
     {
-        let mut knots = [EMPTY; 96];
+        let mut knots = [EMPTY; MOST];
         knots[..ks.len()].copy_from_slice(ks);
         KnotList {
             knots,
@@ -57,8 +58,8 @@ impl KnotList {
     // The piece from knot i to the next.
     pub(super) fn piece(&self, i: usize) -> Piece
         requires { i + 1 < length (listed self.now) }
-        ensures start { result.from ≡ knot_at (listed self.now) i }
-        ensures end { result.to ≡ knot_at (listed self.now) (i + 1) }
+        ensures from { result.from ≡ knot_at (listed self.now) i }
+        ensures to { result.to ≡ knot_at (listed self.now) (i + 1) }
     {
         let ks = self.as_slice();
         Piece::new(ks[i], ks[i + 1])

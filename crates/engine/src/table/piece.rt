@@ -23,8 +23,8 @@ impl Piece {
     // The piece between two neighbouring knots.
     pub(super) fn new(from: Knot, to: Knot) -> Piece
         requires { Neighbours from to }
-        ensures start { result.from ≡ from }
-        ensures end { result.to ≡ to }
+        ensures from { result.from ≡ from }
+        ensures to { result.to ≡ to }
     {
         Piece { from, to }
     }
@@ -52,8 +52,8 @@ impl Piece {
     {
         match kind {
             Kind::Step => self.height(),
-            Kind::Line => quotient_up(self.height(), self.width()),
-            Kind::Cubic => quotient_up(3 * self.height(), self.width()),
+            Kind::Line => self.height().div_ceil(self.width()),
+            Kind::Cubic => (3 * self.height()).div_ceil(self.width()),
         }
     }
 }
@@ -62,29 +62,33 @@ impl Piece {
 #[derive(Clone, Copy)]
 pub(super) struct SlopedPiece {
     piece: Piece,
-    start: u32,
-    end: u32,
-    ghost gentle_start: { Gentle piece.from piece.to start },
-    ghost gentle_end: { Gentle piece.from piece.to end },
+    start_slope: u32,
+    end_slope: u32,
+    ghost gentle_start: { Gentle piece.from piece.to start_slope },
+    ghost gentle_end: { Gentle piece.from piece.to end_slope },
 }
 
 impl SlopedPiece {
     // The piece with these slopes.
-    pub(super) fn new(piece: Piece, start: u32, end: u32) -> SlopedPiece
-        requires start { Gentle piece.from piece.to start }
-        requires end { Gentle piece.from piece.to end }
+    pub(super) fn new(piece: Piece, start_slope: u32, end_slope: u32) -> SlopedPiece
+        requires start { Gentle piece.from piece.to start_slope }
+        requires end { Gentle piece.from piece.to end_slope }
         ensures piece { result.piece ≡ piece }
-        ensures start { result.start ≡ start }
-        ensures end { result.end ≡ end }
+        ensures start { result.start_slope ≡ start_slope }
+        ensures end { result.end_slope ≡ end_slope }
     {
-        SlopedPiece { piece, start, end }
+        SlopedPiece {
+            piece,
+            start_slope,
+            end_slope,
+        }
     }
 
     // Its value at x, by its kind.
     pub(super) fn value(self, kind: Kind, x: i32) -> i32
         requires from { self.piece.from.x ≤ℤ x }
         requires to { x ≤ℤ self.piece.to.x }
-        ensures { result ≡ piece_value kind self.piece.from self.piece.to (pos self.start) (pos self.end) x }
+        ensures { result ≡ piece_value kind self.piece.from self.piece.to (pos self.start_slope) (pos self.end_slope) x }
     {
         let from = self.piece.from;
         let u = u64::from(x.abs_diff(from.x));
@@ -95,26 +99,28 @@ impl SlopedPiece {
     fn climb(self, kind: Kind, u: u64) -> u64
         requires { u ≤ piece_width self.piece.from self.piece.to }
         ensures is { (self.piece.from.y +ℤ pos result) ≡ piece_value kind self.piece.from self.piece.to
-            (pos self.start) (pos self.end) (self.piece.from.x +ℤ pos u) }
+            (pos self.start_slope) (pos self.end_slope) (self.piece.from.x +ℤ pos u) }
         ensures small { result ≤ piece_height self.piece.from self.piece.to }
     {
-        let (h, d) = (self.piece.width(), self.piece.height());
         match kind {
             Kind::Step => 0,
-            Kind::Line => (2 * d * u + h) / (2 * h),
+            Kind::Line => {
+                let (h, d) = (self.piece.width(), self.piece.height());
+                (2 * d * u + h) / (2 * h)
+            }
             Kind::Cubic => self.cubic_climb(u),
         }
     }
 
-    // The same of a cubic piece.
+    // What a cubic piece adds to its first y at u from its start.
     fn cubic_climb(self, u: u64) -> u64
         requires { u ≤ piece_width self.piece.from self.piece.to }
         ensures is { (self.piece.from.y +ℤ pos result) ≡ piece_value Cubic self.piece.from self.piece.to
-            (pos self.start) (pos self.end) (self.piece.from.x +ℤ pos u) }
+            (pos self.start_slope) (pos self.end_slope) (self.piece.from.x +ℤ pos u) }
         ensures small { result ≤ piece_height self.piece.from self.piece.to }
     {
         let (h, d) = (self.piece.width(), self.piece.height());
-        let (m, n) = (u64::from(self.start), u64::from(self.end));
+        let (m, n) = (u64::from(self.start_slope), u64::from(self.end_slope));
         let v = h - u;
         let gain = 2048 * d * (u * u) * (u + 3 * v) + m * h * u * (v * v);
         let loss = n * h * (u * u) * v;
@@ -130,12 +136,4 @@ fn rounded(n: u64, w: u64) -> u64
     ensures { result ≡ (n + 1024 * w) / (2048 * w) }
 {
     (n + 1024 * w) / (2048 * w)
-}
-
-// a / b rounded up.
-fn quotient_up(a: u64, b: u64) -> u64
-    requires { 0 < b }
-    ensures { result ≡ round_up (pos a ÷ b) }
-{
-    a.div_ceil(b)
 }

@@ -7,6 +7,7 @@ ghost use Rattle.engine.specs.Neighbours.{piece_height, piece_width};
 ghost use Rattle.engine.specs.Tables.{Slopes, inner_slope as slope_between, stored, stored_at};
 ghost use Rattle.engine.specs.Tables.{mean_bottom as bottom_between, mean_top as top_between};
 
+use super::MOST;
 use super::list::KnotList;
 use super::piece::Piece;
 use std::array;
@@ -41,7 +42,7 @@ fn inner_slope(before: Piece, after: Piece) -> u32
     scaled(mean_top(before, after), mean_bottom(before, after)) as u32
 }
 
-// The numerator and the denominator of the mean of two secants.
+// The numerator of the mean of two secants.
 fn mean_top(before: Piece, after: Piece) -> u64
     ensures { result ≡ top_between (piece_width before.from before.to) (piece_height before.from before.to)
         (piece_width after.from after.to) (piece_height after.from after.to) }
@@ -49,6 +50,7 @@ fn mean_top(before: Piece, after: Piece) -> u64
     3 * (before.width() + after.width()) * before.height() * after.height()
 }
 
+// Its denominator.
 fn mean_bottom(before: Piece, after: Piece) -> u64
     ensures { result ≡ bottom_between (piece_width before.from before.to) (piece_height before.from before.to)
         (piece_width after.from after.to) (piece_height after.from after.to) }
@@ -60,7 +62,7 @@ fn mean_bottom(before: Piece, after: Piece) -> u64
 
 impl KnotList {
     // The stored slopes at its knots.
-    pub(super) fn slopes(&self) -> [u32; 96]
+    pub(super) fn slopes(&self) -> [u32; MOST]
         ensures { Slopes (listed self.now) result }
     {
         array::from_fn(|i| if i < self.len() { self.slope_at(i) } else { 0 })

@@ -11,7 +11,7 @@ use std::ops::Range;
 
 impl KnotList {
     // How many knots are at or below x.
-    pub(super) fn reached(&self, x: i32) -> usize
+    pub(super) fn count_reached(&self, x: i32) -> usize
         ensures { Reached (listed self.now) x result }
     {
         self.as_slice().partition_point(|k| k.x <= x)
@@ -21,7 +21,7 @@ impl KnotList {
     pub(super) fn slot_of(&self, x: i32) -> Range<usize>
         ensures { Slotted (listed self.now) x result.start result.end }
     {
-        let end = self.reached(x);
+        let end = self.count_reached(x);
         match self.before(end) {
             Some(k) if k.x == x => end - 1..end,
             _ => end..end,

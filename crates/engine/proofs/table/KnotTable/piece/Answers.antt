@@ -10,8 +10,8 @@ pub new-requires : goal.new-requires
 new-requires c =
     let t = c.args.self.now in
     let i = c.args.i in
-    let p = sym c.piece.ensures.start in
-    let q = sym c.piece.ensures.end in
+    let p = sym c.piece.ensures.from in
+    let q = sym c.piece.ensures.to in
     let before : i < length (knots_of t) = omega (arith, c.requires) in
     record {
       start = subst₂ (λ p q. Gentle p q (slice_index_or t.slopes i 0)) p q
@@ -26,8 +26,8 @@ returns c =
     let i = c.args.i in
     let before : i < length (knots_of t) = omega (arith, c.requires) in
     record {
-      from = ap (λ (p : Piece). p.from) c.new.ensures.piece ∙ c.piece.ensures.start;
-      to = ap (λ (p : Piece). p.to) c.new.ensures.piece ∙ c.piece.ensures.end;
+      from = ap (λ (p : Piece). p.from) c.new.ensures.piece ∙ c.piece.ensures.from;
+      to = ap (λ (p : Piece). p.to) c.new.ensures.piece ∙ c.piece.ensures.to;
       start = ap pos c.new.ensures.start ∙ t.steep i before;
       end = ap pos c.new.ensures.end ∙ t.steep (i + 1) c.requires;
     }

@@ -36,7 +36,7 @@ loop-from-preserved c =
     subst (λ n. Walked t.kind (listed t.list) n c.max-greatest.result (iter_rest c.next.new.self.a) (iter_rest c.next.new.self.b))
     (sym counted)
     (walked_on t.kind (listed t.list) _ _ _ _ c.loop-from.invariant _ _ _ _ s.0 s.1 c.rise.result c.max-greatest.result
-    (c.rise.ensures ∙ ap₂ (piece_rise t.kind) c.new.ensures.start c.new.ensures.end) c.max-greatest.ensures)
+    (c.rise.ensures ∙ ap₂ (piece_rise t.kind) c.new.ensures.from c.new.ensures.to) c.max-greatest.ensures)
 
 pub returns : goal.returns
 returns c =

@@ -20,4 +20,4 @@ returns c =
     let fits = climbed_fits p.neighbours c.climb.result c.climb.ensures.small in
     let at : (p.from.x +ℤ pos c.from-u.result) ≡ c.args.x = omega (arith, ints) in
     rw (to_z-of_z w32 p.from.y y_fits, as_it_is, to_z-of_z w32 _ fits)
-    (c.climb.ensures.is ∙ ap (piece_value c.args.kind p.from p.to (pos c.args.self.start) (pos c.args.self.end)) at)
+    (c.climb.ensures.is ∙ ap (piece_value c.args.kind p.from p.to (pos c.args.self.start_slope) (pos c.args.self.end_slope)) at)

@@ -1,4 +1,4 @@
-//! What an edit of a list may leave: the slot for it, or why it is refused.
+//! The slot of a list that an edit takes, or why the edit is refused.
 
 ghost use Rattle.std.specs.Prelude.{◌≡◌, ◌+◌, ◌-◌, ◌≤◌, length};
 ghost use Rattle.engine.specs.Refusals.{Outcome, told};

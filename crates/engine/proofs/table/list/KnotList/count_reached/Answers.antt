@@ -7,7 +7,7 @@ use Rattle.engine.specs.Drafts.{Reached}
 use Rattle.engine.specs.Lists.{listed}
 use Rattle.engine.specs.Lawfuls.{parts}
 use Rattle.engine.proofs.Slots.{reached_first, reached_until}
-use Rattle.engine.proofs.table.list.KnotList.reached.Goals as goal
+use Rattle.engine.proofs.table.list.KnotList.count_reached.Goals as goal
 
 pub returns : goal.returns
 returns c =
