@@ -3,7 +3,11 @@ use Rattle.std.proofs.Common.{◌≡◌, ℕ, zero, suc, ◌+◌, ◌<◌, ◌�
 use Rattle.std.specs.Option.{option_or}
 use Rattle.std.proofs.lemmas.List.{at_drop_more, at_drop_all}
 use Rattle.std.proofs.lemmas.Bool.{and_from, not-false}
-use Rattle.engine.specs.Refusals.{Told, at_index}
+use Rattle.std.specs.Prelude.{Ok, Err, Result, is_ok, MatchResult}
+use Rattle.engine.specs.Refusals.{Outcome, Told, at_index, load_told, told}
+use Rattle.engine.specs.declared.refusal.Refusal.{Refusal}
+use Rattle.engine.specs.declared.refusal.LoadRefusal.{LoadRefusal}
+use Rattle.engine.specs.declared.refusal.LoadRefusal.TheVariants.{AtKnot}
 use Rattle.engine.specs.Refusals.{not_coordinate, not_rightward, out_of_order, too_far_apart}
 use Rattle.engine.specs.declared.knot.Knot.{Knot}
 use Rattle.engine.specs.Edits.{order_fault, knot_fault, first_fault, before, FirstFault, NamesFirst}
@@ -27,6 +31,21 @@ module _ (ks : List Knot) (all : Option Told) (i : ℕ) (b : Option Knot) (insid
       turn
       ∙ ap (λ o. option_or o (first_fault (suc i) (Some (knot_at ks i)) (drop (i + 1) ks))) e
       ∙ ap (λ n. first_fault n (Some (knot_at ks i)) (drop (i + 1) ks)) (sym (add-one i))
+
+-- the check of one knot, whose refusal is told with the index i
+module _ (i : ℕ) (b : Option Knot) (k : Knot) where
+  abbrev Checked : Result (Unit {0}) Refusal → Type 0
+  Checked = Outcome (λ r. at_index i (told r).number) (knot_fault i b k) (λ _. Unit {0})
+
+  pub knot_passes : (r : Result (Unit {0}) Refusal) → Checked r → true ≡ is_ok r → knot_fault i b k ≡ None
+  knot_passes (Ok u) o e = o.0
+  knot_passes (Err r) o e = cc
+
+  pub knot_refused : (P : Refusal → Type 0) (r : Result (Unit {0}) Refusal) (e : LoadRefusal) → Checked r
+      → MatchResult r (λ u. ◌≡◌ {A = Result (Unit {0}) LoadRefusal} (Err e) (Ok u)) P
+      → ((r : Refusal) → P r → e ≡ AtKnot i r) → knot_fault i b k ≡ Some (load_told e)
+  knot_refused P (Ok u) e o m at = cc
+  knot_refused P (Err r) e o m at = o ∙ ap (λ e. Some (load_told e)) (sym (at r m))
 
 -- its end
 pub fault_none : (ks : List Knot) (all : Option Told) (i : ℕ) (b : Option Knot) → length ks ≤ i

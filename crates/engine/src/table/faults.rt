@@ -1,6 +1,6 @@
 //! What is wrong with knots.
 
-ghost use Rattle.std.specs.Prelude.{◌≡◌, Bool, None as Nothing};
+ghost use Rattle.std.specs.Prelude.{◌≡◌, ℕ, Bool, None as Nothing};
 ghost use Rattle.engine.specs.Refusals.{Outcome, at_index, load_told, told};
 ghost use Rattle.engine.specs.Drafts.{fitted};
 ghost use Rattle.engine.specs.Edits.{first_fault, knot_fault};
@@ -55,31 +55,24 @@ pub(super) fn fits_between<F: Fn(Knot, Knot) -> bool>(
     before.is_none_or(|b| test(b, k)) && after.is_none_or(|a| test(k, a))
 }
 
-// The refusal of the knot at `index`.
-fn at_knot(index: usize, cause: Refusal) -> LoadRefusal
-    ensures { load_told result ≡ at_index index (told cause).number }
-{
-    LoadRefusal::AtKnot { index, cause }
-}
-
-// The knot k at `index`, where `before` is the knot before it: the first check that fails refuses it.
-fn check_knot(index: usize, before: Option<Knot>, k: Knot) -> Result<(), LoadRefusal>
-    ensures { Outcome load_told (knot_fault index before k) (λ _. Unit {0}) result }
+// The knot k, where `before` is the knot before it: the first check that fails refuses it.
+fn check_knot(before: Option<Knot>, k: Knot) -> Result<(), Refusal>
+    ensures { (i : ℕ) → Outcome (λ r. at_index i (told r).number) (knot_fault i before k) (λ _. Unit {0}) result }
 {
     if !is_fit(k) {
-        return Err(at_knot(index, Refusal::NotCoordinate));
+        return Err(Refusal::NotCoordinate);
     }
     let Some(before) = before else {
         return Ok(());
     };
     if !is_rightward(before, k) {
-        return Err(at_knot(index, Refusal::NotRightward));
+        return Err(Refusal::NotRightward);
     }
     if !is_near(before, k) {
-        return Err(at_knot(index, Refusal::TooFarApart));
+        return Err(Refusal::TooFarApart);
     }
     if !is_upward(before, k) {
-        return Err(at_knot(index, Refusal::OutOfOrder));
+        return Err(Refusal::OutOfOrder);
     }
     Ok(())
 }
@@ -90,7 +83,7 @@ pub(super) fn check_knots(ks: &[Knot]) -> Result<(), LoadRefusal>
 {
     let mut before = None;
     for (index, k) in ks.iter().enumerate() {
-        check_knot(index, before, *k)?;
+        check_knot(before, *k).map_err(|cause| LoadRefusal::AtKnot { index, cause })?;
         before = Some(*k);
     }
     Ok(())
