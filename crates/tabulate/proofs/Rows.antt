@@ -15,19 +15,16 @@ abbrev pub count : Readings → ℕ
 count r = reading_count (span_of r)
 
 module _ (r : Readings) where
-  some : 0 < r.step
-  some = omega (arith, r.some)
-
   -- there is a reading i exactly where i steps do not pass the last
   pub reading_inside : (i : ℕ) → i < count r → at r i ≤ℤ r.band.hi
   reading_inside i h =
       let k : i ≤ unsigned_abs (r.band.hi -ℤ r.band.lo) / r.step = omega arith in
-      omega (arith, ints, r.band.order, (le-div_iff_mul-le some).0 k)
+      omega (arith, ints, r.band.order, (le-div_iff_mul-le r.some).0 k)
 
   pub reading_there : (i : ℕ) → at r i ≤ℤ r.band.hi → i < count r
   reading_there i h =
       let k : i * r.step ≤ unsigned_abs (r.band.hi -ℤ r.band.lo) = omega (arith, ints, r.band.order) in
-      omega (arith, (le-div_iff_mul-le some).1 k)
+      omega (arith, (le-div_iff_mul-le r.some).1 k)
 
   pub reading_fits : (i : ℕ) → i < count r → Coordinate (at r i)
   reading_fits i h =

@@ -1,5 +1,7 @@
 //! The settings in the text of the input.
 
+ghost use Rattle.std.specs.Prelude.{Some, codes};
+
 use crate::nozzle::Settings;
 use crate::span::Span;
 use std::error::Error;
@@ -11,6 +13,9 @@ use std::str::{FromStr, SplitWhitespace};
 pub struct InputError;
 
 impl fmt::Display for InputError {
+    ghost output = { λ _. Some (codes
+        "expected seven whole numbers of 32 bits: ZERO TRIM LOW HIGH FIRST LAST STEP") };
+
     fn fmt<W: fmt::Write>(&self, f: &mut fmt::Formatter<W>) -> fmt::Result {
         f.write_str("expected seven whole numbers of 32 bits: ZERO TRIM LOW HIGH FIRST LAST STEP")
     }

@@ -1,17 +1,7 @@
-use Rattle.std.proofs.Common.{◌≤◌, ap, ◌∙◌, subst}
-use Rattle.engine.specs.Knots.{fewest, lawful, most}
-use Rattle.engine.proofs.Lists.{count_is, spliced_is}
+use Rattle.std.proofs.Common.{ap, ◌∙◌}
+use Rattle.engine.specs.Knots.{lawful}
+use Rattle.engine.proofs.Lists.{spliced_is}
 use Rattle.engine.proofs.table.list.KnotList.spliced.Goals as goal
-
-pub invariant_of-result-clause-some : goal.invariant_of-result-clause-some
-invariant_of-result-clause-some c =
-    let n = count_is c.args.self.now c.args.slot.start c.args.slot.end c.args.others.now c.requires.order c.requires.inside in
-    subst (λ n. fewest ≤ n) n c.requires.some
-
-pub invariant_of-result-clause-few : goal.invariant_of-result-clause-few
-invariant_of-result-clause-few c =
-    let n = count_is c.args.self.now c.args.slot.start c.args.slot.end c.args.others.now c.requires.order c.requires.inside in
-    subst (λ n. n ≤ most) n c.requires.few
 
 pub invariant_of-result-clause-ok : goal.invariant_of-result-clause-ok
 invariant_of-result-clause-ok c =
