@@ -7,7 +7,7 @@ use Rattle.std.proofs.lemmas.Bool.{and_from, and_parts, lt-ltb, le-ltb}
 use Rattle.engine.specs.Coordinates.{coordinate}
 use Rattle.engine.specs.Refusals.{alone, not_coordinate, knot_count, out_of_order, too_far_apart, no_knot}
 use Rattle.engine.specs.declared.knot.Knot.{Knot}
-use Rattle.engine.specs.Drafts.{Slotted, knot_from, linked, fitted}
+use Rattle.engine.specs.Slots.{Slotted, knot_from, linked, fitted}
 use Rattle.engine.specs.Orders.{by_test}
 use Rattle.engine.specs.Edits.{before, Has, put_refusal, drop_refusal}
 use Rattle.engine.specs.Knots.{fewest, most, knot, fits, rightward, near, upward, each, neighbours, lawful}

@@ -7,7 +7,7 @@ use Rattle.std.proofs.lemmas.Int.{ints}
 use Rattle.std.proofs.lemmas.Bool.{and_from, and_parts, lt-ltb, le-ltb, cond-true, cases_lt, ltb-true}
 use Rattle.engine.specs.declared.knot.Knot.{Knot}
 use Rattle.engine.specs.Orders.{by_test}
-use Rattle.engine.specs.Drafts.{Reached, Slotted, knot_from, linked}
+use Rattle.engine.specs.Slots.{Reached, Slotted, knot_from, linked}
 use Rattle.engine.specs.Edits.{before}
 use Rattle.engine.specs.Knots.{empty, knot, knot_at, each, neighbours, rightward, with_knot, has_knot, without_knot}
 use Rattle.engine.specs.Lawfuls.{neighbours_at}

@@ -6,7 +6,7 @@ use Rattle.std.specs.List.{splice}
 use Rattle.std.proofs.lemmas.List.{same_lists, places, drop_more, drop_all, length-append, length-drop, length-take-le}
 use Rattle.std.proofs.lemmas.Bool.{cases_eq, cases_lt, and_from, and_parts, lt-ltb, le-ltb, ltb-true, cond-true, cond-false}
 use Rattle.engine.specs.declared.knot.Knot.{Knot}
-use Rattle.engine.specs.Drafts.{knot_from, linked}
+use Rattle.engine.specs.Slots.{knot_from, linked}
 use Rattle.engine.specs.Edits.{before}
 use Rattle.engine.specs.Orders.{by_test}
 use Rattle.engine.specs.Knots.{empty, knot_at, each, neighbours}

@@ -3,7 +3,7 @@ use Rattle.std.proofs.Common.{◌≡◌, ℕ, ◌-◌, ◌<◌, List, ◌∷◌,
 use Rattle.std.proofs.lemmas.List.{length-take-le, get_or-append_right}
 use Rattle.engine.specs.Fraction.{whole, ◌≈ᶠ◌}
 use Rattle.engine.specs.declared.knot.Knot.{Knot}
-use Rattle.engine.specs.Drafts.{Slotted}
+use Rattle.engine.specs.Slots.{Slotted}
 use Rattle.engine.specs.Edits.{knots_of, curve_of, Has, put_refusal, drop_refusal, Put, Dropped}
 use Rattle.engine.specs.Knots.{empty, knot, knot_at, with_knot, without_knot}
 use Rattle.engine.specs.Theorems.{TableLaw}

@@ -12,7 +12,7 @@ use Rattle.engine.specs.Places.{LawfulTable}
 use Rattle.engine.specs.declared.knot.Knot.{Knot}
 use Rattle.engine.specs.Lines.{line_piece}
 use Rattle.engine.specs.Orders.{leZ_false}
-use Rattle.engine.specs.Drafts.{Reached}
+use Rattle.engine.specs.Slots.{Reached}
 use Rattle.engine.specs.Knots.{empty, fewest, knot_at, lawful}
 use Rattle.engine.specs.Neighbours.{Gentle, Neighbours, piece_value, piece_rise}
 use Rattle.engine.specs.Tables.{stored_at, slope, stored, value_from, greatest, table_value, table_rise, secant}

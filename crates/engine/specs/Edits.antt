@@ -7,6 +7,7 @@ use Rattle.engine.specs.Fraction.{whole, ◌≈ᶠ◌}
 use Rattle.engine.specs.Refusals.{Told, alone, at_index}
 use Rattle.engine.specs.Refusals.{not_coordinate, knot_count, not_rightward, out_of_order, too_far_apart, no_knot}
 use Rattle.engine.specs.Kinds.{kind_number}
+use Rattle.engine.specs.declared.kind.Kind.{Kind}
 use Rattle.engine.specs.declared.knot.Knot.{Knot}
 use Rattle.engine.specs.Knots.{fewest, most, knot_at, fits, rightward, near, upward, neighbours}
 use Rattle.engine.specs.Knots.{with_knot, has_knot, without_knot}
@@ -23,6 +24,11 @@ knots_of t = listed t.list
 -- what it means
 abbrev pub curve_of : KnotTable → Meaning
 curve_of t = table_curve t.kind (knots_of t)
+
+-- the table of the knots ks and of a kind
+pub record IsTable (ks : List Knot) (kind : Kind) (t : KnotTable) : Type 0 where
+  pub knots_are : knots_of t ≡ ks
+  pub kind_is : t.kind ≡ kind
 
 -- An edit: where a refusal is due, it tells just that and leaves the table as it was; where none is, it leaves a table
 -- of which P holds.

@@ -13,7 +13,7 @@ pub mod Tables
 pub mod Neighbours
 pub mod Lists
 pub mod Edits
-pub mod Drafts
+pub mod Slots
 pub mod Theorems
 -- lemmas that the laws of curves rest on
 pub mod Orders

@@ -48,8 +48,7 @@ pub struct KnotTable {
 }
 
 impl KnotTable {
-    ghost use Rattle.engine.specs.Drafts.{IsTable};
-    ghost use Rattle.engine.specs.Edits.{Dropped, Edited, Loaded, NamesFirst, Put, Rekinded, WhereRefused};
+    ghost use Rattle.engine.specs.Edits.{Dropped, Edited, IsTable, Loaded, NamesFirst, Put, Rekinded, WhereRefused};
     ghost use Rattle.engine.specs.Edits.{drop_refusal, knots_of, load_refusal, put_refusal};
 
     /// A new table: straight lines through (-8192, -8192), (-4096, -4096), (0, 0), (4096, 4096) and (8191, 8191).

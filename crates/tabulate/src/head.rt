@@ -2,7 +2,7 @@
 
 ghost use Rattle.std.specs.Prelude.{◌≡◌};
 ghost use Rattle.engine.specs.Refusals.{Outcome, told};
-ghost use Rattle.engine.specs.Drafts.{IsTable as IsKnotTable};
+ghost use Rattle.engine.specs.Edits.{IsTable as IsKnotTable};
 ghost use Rattle.engine.specs.Means.{means};
 ghost use Rattle.engine.specs.declared.kind.Kind.TheVariants.{Cubic};
 ghost use Rattle.tabulate.specs.Readings.{span_refusal};

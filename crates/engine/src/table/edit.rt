@@ -2,7 +2,7 @@
 
 ghost use Rattle.std.specs.Prelude.{◌≡◌, ◌+◌, ◌-◌, ◌≤◌, length};
 ghost use Rattle.engine.specs.Refusals.{Outcome, told};
-ghost use Rattle.engine.specs.Drafts.{Slotted, knot_from, linked};
+ghost use Rattle.engine.specs.Slots.{Slotted, knot_from, linked};
 ghost use Rattle.engine.specs.Edits.{before as before_knot, drop_refusal, put_refusal};
 ghost use Rattle.engine.specs.Knots.{near};
 ghost use Rattle.engine.specs.Lists.{listed};

@@ -2,7 +2,7 @@
 
 ghost use Rattle.std.specs.Prelude.{◌≡◌, ℕ, Bool, None as Nothing};
 ghost use Rattle.engine.specs.Refusals.{Outcome, at_index, load_told, told};
-ghost use Rattle.engine.specs.Drafts.{fitted};
+ghost use Rattle.engine.specs.Slots.{fitted};
 ghost use Rattle.engine.specs.Edits.{first_fault, knot_fault};
 ghost use Rattle.engine.specs.Knots.{fits, near, rightward, upward};
 

@@ -1,7 +1,7 @@
 //! Where a reading falls among the knots of a list.
 
 ghost use Rattle.std.specs.Prelude.{◌≡◌, ◌≤◌, length};
-ghost use Rattle.engine.specs.Drafts.{Reached, Slotted, knot_from};
+ghost use Rattle.engine.specs.Slots.{Reached, Slotted, knot_from};
 ghost use Rattle.engine.specs.Edits.{before as before_knot};
 ghost use Rattle.engine.specs.Lists.{listed};
 

@@ -3,7 +3,7 @@ use Rattle.std.specs.Prelude.{int_le}
 use Rattle.std.specs.List.Sorted.{IsPartitionedBy}
 use Rattle.std.proofs.lemmas.List.Sorted.{IsPartitionPoint-from_clause}
 use Rattle.engine.specs.declared.knot.Knot.{Knot}
-use Rattle.engine.specs.Drafts.{Reached}
+use Rattle.engine.specs.Slots.{Reached}
 use Rattle.engine.specs.Lists.{listed}
 use Rattle.engine.specs.Lawfuls.{parts}
 use Rattle.engine.proofs.Slots.{reached_first, reached_until}

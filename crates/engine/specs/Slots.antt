@@ -1,11 +1,9 @@
--- What the steps of an edit promise one another.
+-- Where x falls among the knots of a list, and the knots on either side.
 use Rattle.std.specs.Prelude.{◌≡◌, ℕ, suc, ◌-◌, ◌<◌, ◌≤◌, Bool, true, false, if◌then◌else◌, ◌&&◌, List, [], ◌∷◌, length, ℤ, Some, None, Option, int_le, nat_lt}
 use Rattle.std.specs.List.{splice}
 use Rattle.engine.specs.declared.knot.Knot.{Knot}
-use Rattle.engine.specs.Edits.{before, knots_of}
+use Rattle.engine.specs.Edits.{before}
 use Rattle.engine.specs.Knots.{knot, knot_at, rightward, with_knot, has_knot, without_knot}
-use Rattle.engine.specs.declared.kind.Kind.{Kind}
-use Rattle.engine.specs.declared.table.KnotTable.{KnotTable}
 
 -- n of the knots are at or below x: knot n - 1 is, and knot n is not
 pub record Reached (ks : List Knot) (x : ℤ) (n : ℕ) : Type 0 where
@@ -38,8 +36,3 @@ pub record Slotted (ks : List Knot) (x : ℤ) (start end : ℕ) : Type 0 where
   pub found : has_knot x ks ≡ nat_lt start end
   pub with_is : (y : ℤ) → with_knot x y ks ≡ splice ks start end (knot x y ∷ [])
   pub without_is : without_knot x ks ≡ splice ks start end []
-
--- the table of the knots ks and of a kind
-pub record IsTable (ks : List Knot) (kind : Kind) (t : KnotTable) : Type 0 where
-  pub knots_are : knots_of t ≡ ks
-  pub kind_is : t.kind ≡ kind
