@@ -1,6 +1,7 @@
 //! What the table answers to a call.
 
-ghost use Rattle.std.specs.Prelude.{◌≡◌, OnErr};
+ghost use Rattle.std.specs.Prelude.{◌≡◌, OnErr, IfOk};
+ghost use Rattle.table_cases.specs.Values.{ValuesAt};
 
 use crate::error::CallError;
 use crate::script::{Call, Readings};
@@ -50,7 +51,9 @@ pub(crate) fn answer_call(
 }
 
 // The values of the table at the readings, in their order.
-fn values_at(heap: Global, table: &KnotTable, readings: Readings) -> Result<Vec<i32>, AllocError> {
+fn values_at(heap: Global, table: &KnotTable, readings: Readings) -> Result<Vec<i32>, AllocError>
+    ensures { IfOk result (λ values. ValuesAt table.now readings values.items) }
+{
     let Readings { first, last, step } = readings;
     let mut values = Vec::new(heap);
     for reading in (first..=last).step_by(step.get() as usize) {
