@@ -1,8 +1,7 @@
 -- The place of x in a list of knots in order of x, and what an edit there makes of the list.
 use Rattle.std.proofs.Common.{◌≡◌, ℕ, zero, suc, ◌+◌, ◌-◌, ◌<◌, ◌≤◌, Bool, true, false, ltb, List, [], ◌∷◌, ◌++◌, length, take, drop, ℤ, Some, Option, sym, refl, ap, ◌∙◌, subst, subst₂, inl, inr, arith, take-append-drop}
 use lib.Signed.{le_z, lt_z}
-use Rattle.std.proofs.lemmas.List.{drop_more, drop_all, get_or_default}
-use Rattle.std.specs.List.Sorted.{IsPartitionedBy, IsPartitionPoint}
+use Rattle.std.proofs.lemmas.List.{drop_more, drop_all}
 use Rattle.std.proofs.lemmas.Int.{ints}
 use Rattle.std.proofs.lemmas.Bool.{and_from, and_parts, lt-ltb, le-ltb, cond-true, cases_lt, ltb-true}
 use Rattle.engine.specs.declared.knot.Knot.{Knot}
@@ -223,34 +222,3 @@ module _ (x : ℤ) where
           | inl l ↦ subst Ahead (sym (drop_more ks n empty l)) (short_of (knot_at ks n).x (r.short l))
           | inr m ↦ subst Ahead (sym (drop_all n ks m)) tt
         ]
-
--- ---- the search
-
--- the knots at or below x come before the others
-pub reached_first : (ks : List Knot) → neighbours rightward ks ≡ true → (x : ℤ) → IsPartitionedBy (λ k. le_z k.x x) ks
-reached_first ks o x i j d l h t =
-    let e : i + (j - i) ≡ j = omega arith in
-    subst (λ k. le_z k.x x ≡ true) (get_or_default ks i empty d (omega arith))
-    (down i (j - i) (omega arith)
-    (subst (λ n. le_z (knot_at ks n).x x ≡ true) (sym e)
-    (subst (λ k. le_z k.x x ≡ true) (get_or_default ks j d empty h) t)))
-  where
-    left_of : (a b : Knot) → rightward a b ≡ true → le_z b.x x ≡ true → le_z a.x x ≡ true
-    left_of a b r t = sym (omega (arith, ints))
-
-    down : (i m : ℕ) → i + m < length ks → le_z (knot_at ks (i + m)).x x ≡ true → le_z (knot_at ks i).x x ≡ true
-    down i zero l t = let e : i + 0 ≡ i = omega arith in subst (λ n. le_z (knot_at ks n).x x ≡ true) e t
-    down i (suc m) l t =
-        let e : i + suc m ≡ suc (i + m) = omega arith in
-        down i m (omega arith)
-        (left_of (knot_at ks (i + m)) (knot_at ks (suc (i + m))) (neighbours_at rightward ks o (i + m) (omega arith))
-        (subst (λ n. le_z (knot_at ks n).x x ≡ true) e t))
-
--- where they end is how many they are
-pub reached_until : (ks : List Knot) (x : ℤ) (n : ℕ) → n ≤ length ks
-    → IsPartitionPoint (λ k. le_z k.x x ≡ true) (λ k. le_z k.x x ≡ false) ks n → Reached ks x n
-reached_until ks x n l p = record {
-  inside = l;
-  from = λ h. p.0 (n - 1) empty (omega arith) (omega arith);
-  short = λ h. p.1 n empty (omega arith) h;
-}

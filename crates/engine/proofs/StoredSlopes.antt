@@ -1,10 +1,7 @@
 -- Stored slopes as the code computes them, and the products that fit 64 bits.
-use Rattle.std.proofs.Common.{◌≡◌, ℕ, zero, suc, ◌+◌, ◌-◌, ◌*◌, ◌/◌, ◌<◌, ◌≤◌, true, cond, ◌||◌, eqb, ◌⊎◌, List, length, ℤ, pos, negsuc, ◌+ℤ◌, w32, SFits, refl, sym, ap, ◌∙◌, subst, ap₂, inl, inr, le_trans, mul-le-mul_right, mul-le-mul, mul-le-mul_left, arith}
+use Rattle.std.proofs.Common.{◌≡◌, ℕ, zero, suc, ◌+◌, ◌-◌, ◌*◌, ◌/◌, ◌<◌, ◌≤◌, true, cond, ◌||◌, eqb, ◌⊎◌, List, length, ℤ, pos, negsuc, ◌+ℤ◌, w32, SFits, sym, ap, ◌∙◌, ap₂, inl, inr, le_trans, mul-le-mul_right, mul-le-mul, mul-le-mul_left, arith}
 use native.Mathlib.Decide.{dec_le}
-use Rattle.std.specs.Prelude.{slice_index}
-use Rattle.std.specs.Array.{IsFromFnResult, IsFromFnResultFrom}
-use Rattle.std.specs.Fn.{Called, Mut}
-use Rattle.std.proofs.lemmas.Bool.{cases_eq, eq-eqb, ne_eqb, or_left, or_right, or_from}
+use Rattle.std.proofs.lemmas.Bool.{eq-eqb, ne_eqb, or_left, or_right, or_from}
 use Rattle.engine.specs.Fraction.{whole, ◌÷◌, ◌*ᶠ◌}
 use Rattle.engine.specs.Coordinates.{Coordinate}
 use Rattle.engine.specs.Pieces.{width, height}
@@ -159,20 +156,3 @@ module _ (ks : List Knot) where
       (h
       ∙ ap₂ (λ p q. inner_of p q r s) (e ∙ ap (knot_at ks) j) (f ∙ ap (knot_at ks) m)
       ∙ ap₂ (inner_of (knot_at ks i) (knot_at ks (suc i))) g (k ∙ ap (knot_at ks) n))
-
--- ---- an array made by a call for each index: what holds of each call holds of each element
-
-module _ {F : Type 0} (g : Mut F (ℕ × Unit {0}) ℕ) (f : F) (P : ℕ → ℕ → Type 0)
-    (call : (i y : ℕ) (q : F) → Called g f (i, tt) y q → (q ≡ f) × P i y) (ys : List ℕ) where
-  each_from : (i n : ℕ) (p : F) → p ≡ f → IsFromFnResultFrom g p ys i n → (j : ℕ) → i ≤ j → j < i + n
-      → P j (slice_index ys j)
-  each_from i zero p s r j l h = absurd (omega arith)
-  each_from i (suc n) p s r j l h =
-      let made = call i r.1 r.0 (subst (λ p. Called g p (i, tt) r.1 r.0) s r.3) in
-      elim (cases_eq i j) [
-        | inl e ↦ subst (λ k. P k (slice_index ys k)) e (subst (P i) (sym (r.2.1 0)) made.1)
-        | inr d ↦ each_from (i + 1) n r.0 made.0 r.4 j (omega arith) (omega arith)
-      ]
-
-  pub each_made : (n : ℕ) → IsFromFnResult g f ys n → (j : ℕ) → j < n → P j (slice_index ys j)
-  each_made n r j h = each_from 0 n f refl r.each j (omega arith) (omega arith)

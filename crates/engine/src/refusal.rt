@@ -28,6 +28,23 @@ pub enum Refusal {
     OutOfLimits = 11,
 }
 
+/// Not a coordinate.
+pub const NOT_COORDINATE: u8 = Refusal::NotCoordinate as u8;
+/// Knots not 2 to 96.
+pub const KNOT_COUNT: u8 = Refusal::KnotCount as u8;
+/// A knot's x not above the x before.
+pub const NOT_RIGHTWARD: u8 = Refusal::NotRightward as u8;
+/// A knot's y out of order with a neighbour.
+pub const OUT_OF_ORDER: u8 = Refusal::OutOfOrder as u8;
+/// Knots more than 4096 apart.
+pub const TOO_FAR_APART: u8 = Refusal::TooFarApart as u8;
+/// No knot at x.
+pub const NO_KNOT: u8 = Refusal::NoKnot as u8;
+/// Unknown kind of table.
+pub const UNKNOWN_KIND: u8 = Refusal::UnknownKind as u8;
+/// An argument outside its limits, or a band reversed.
+pub const OUT_OF_LIMITS: u8 = Refusal::OutOfLimits as u8;
+
 impl Refusal {
     /// The number that users know the refusal by.
     pub fn number(self) -> u8

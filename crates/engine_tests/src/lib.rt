@@ -14,7 +14,10 @@ mod tests {
     use engine::coordinate::is_coordinate;
     use engine::curve::{Bare, Curve};
     use engine::layer::{Chain, Clamp, Offset};
-    use engine::refusal::Refusal;
+    use engine::refusal::{
+        KNOT_COUNT, NO_KNOT, NOT_COORDINATE, NOT_RIGHTWARD, OUT_OF_LIMITS, OUT_OF_ORDER, Refusal,
+        TOO_FAR_APART, UNKNOWN_KIND,
+    };
     use engine::root::Root;
     use std::test::Fail;
 
@@ -47,6 +50,18 @@ mod tests {
                 "{a}..{b}"
             );
         }
+    }
+
+    #[test]
+    fn refusals_have_their_numbers(rt: HostRuntime) {
+        assert_eq!(rt;
+            (NOT_COORDINATE, KNOT_COUNT, NOT_RIGHTWARD, OUT_OF_ORDER),
+            (1, 2, 3, 4)
+        );
+        assert_eq!(rt;
+            (TOO_FAR_APART, NO_KNOT, UNKNOWN_KIND, OUT_OF_LIMITS),
+            (5, 6, 7, 11)
+        );
     }
 
     #[test]

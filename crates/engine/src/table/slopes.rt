@@ -10,7 +10,6 @@ ghost use Rattle.engine.specs.Tables.{mean_bottom as bottom_between, mean_top as
 use super::MOST;
 use super::list::KnotList;
 use super::piece::Piece;
-use std::array;
 
 // A slope is stored as the greatest whole number not above this many times the slope.
 const SCALE: u64 = 2048;
@@ -65,7 +64,11 @@ impl KnotList {
     pub(super) fn slopes(&self) -> [u32; MOST]
         ensures { Slopes (listed self.now) result }
     {
-        array::from_fn(|i| if i < self.len() { self.slope_at(i) } else { 0 })
+        let mut slopes = [0; MOST];
+        for (i, slope) in slopes[..self.len()].iter_mut().enumerate() {
+            *slope = self.slope_at(i);
+        }
+        slopes
     }
 
     // The stored slope at knot i.

@@ -14,7 +14,18 @@ impl KnotList {
     pub(super) fn count_reached(&self, x: i32) -> usize
         ensures { Reached (listed self.now) x result }
     {
-        self.as_slice().partition_point(|k| k.x <= x)
+        let ks = self.as_slice();
+        let mut low = 0;
+        let mut high = ks.len();
+        while low < high {
+            let middle = low + (high - low) / 2;
+            if ks[middle].x <= x {
+                low = middle + 1;
+            } else {
+                high = middle;
+            }
+        }
+        low
     }
 
     // The slot of x: the knot that stands at x, or the empty slot between those left of x and those right of it.
