@@ -1,6 +1,6 @@
 //! Where a reading falls among the knots of a list.
 
-ghost use Rattle.std.specs.Prelude.{◌≡◌, ◌≤◌, length};
+ghost use Rattle.std.specs.Prelude.{◌≡◌, ◌≤◌, length, int_le};
 ghost use Rattle.engine.specs.Slots.{Reached, Slotted, knot_from};
 ghost use Rattle.engine.specs.Edits.{before as before_knot};
 ghost use Rattle.engine.specs.Lists.{listed};
@@ -8,6 +8,13 @@ ghost use Rattle.engine.specs.Lists.{listed};
 use super::list::KnotList;
 use crate::knot::Knot;
 use std::ops::Range;
+
+// The knot is at or below x.
+fn is_reached(k: Knot, x: i32) -> bool
+    ensures { result ≡ int_le k.x x }
+{
+    k.x <= x
+}
 
 impl KnotList {
     // How many knots are at or below x.
@@ -19,7 +26,7 @@ impl KnotList {
         let mut high = ks.len();
         while low < high {
             let middle = low + (high - low) / 2;
-            if ks[middle].x <= x {
+            if is_reached(ks[middle], x) {
                 low = middle + 1;
             } else {
                 high = middle;
